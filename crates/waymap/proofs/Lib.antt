@@ -1,0 +1,6 @@
+-- The laws that the crates above cite.
+pub mod Booleans
+pub mod BitLaws
+pub mod WordLaws
+pub mod WayLaws
+pub mod MapLaws

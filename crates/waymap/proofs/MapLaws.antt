@@ -1,0 +1,66 @@
+-- The maps of one way and of the first ways, and maps that reach a number of ways, for every width.
+use mathlib.Core.Path.{_≡_, refl, sym, ap, _∙_}
+use mathlib.Core.Bool.{Bool, true, false, not, _&&_, and-true, and-false, false≢true}
+use Prim.Native.Nat.{ℕ, zero, suc, _+_, _-_, _*_, _/_, _%_, _^_, _≤_, _<_}
+use native.Mathlib.Nat.{one-mul, div-eq-of-lt, div-lt-iff-lt-mul, lt-of-le-of-lt, lt-of-lt-of-le}
+use native.Mathlib.Omega.{arith}
+use lib.Dec.{eqb, leb, ltb}
+use lib.Pow.{pow-pos, pow-lt, shl-exact}
+use borrow.Author.Tests.{eqb-true, ne-eqb, eq-eqb, lt-ltb, ltb-true, ltb-false, le-leb, leb-true}
+use Rattle.waymap.specs.Bits.{Bits, bit, word, any, reaches}
+use Rattle.waymap.proofs.Booleans.{cases}
+use Rattle.waymap.proofs.BitLaws.{bit-none, bit-pow, bit-ones}
+use Rattle.waymap.proofs.WordLaws.{from-bits, bit-high, high-none}
+use Rattle.waymap.proofs.WayLaws.{any-none, none-at}
+
+-- ---- one way, and the first ways
+
+pub shifted-one : (n way : ℕ) → way < n → (1 * 2 ^ way) % 2 ^ n ≡ 2 ^ way
+shifted-one n way h = shl-exact {a = 1} 1 way n (omega arith) (omega arith) ∙ one-mul (2 ^ way)
+
+pub one-way : (n way : ℕ) → way < n → (1 * 2 ^ way) % 2 ^ n ≡ word n (λ (w : ℕ). eqb way w)
+one-way n way h = shifted-one n way h ∙ from-bits n (pow-lt h) (λ i k. bit-pow way i)
+
+pub no-way : (n way : ℕ) → n ≤ way → 0 ≡ word n (λ (w : ℕ). eqb way w)
+no-way n way h = from-bits n (pow-pos n) (λ i k. bit-none i ∙ sym (ne-eqb way i (λ e. omega arith)))
+
+pub first-ways : (n ways : ℕ) → ways < n → (1 * 2 ^ ways) % 2 ^ n - 1 ≡ word n (λ (w : ℕ). ltb w ways)
+first-ways n ways h =
+    ap (λ (x : ℕ). x - 1) (shifted-one n ways h)
+    ∙ from-bits n (lt-of-le-of-lt (omega arith) (pow-lt h)) (λ i k. bit-ones ways i)
+
+pub every-way : (n ways : ℕ) → n ≤ ways → 2 ^ n - 1 ≡ word n (λ (w : ℕ). ltb w ways)
+every-way n ways h =
+    from-bits n (omega (arith, pow-pos n)) (λ i k. bit-ones n i ∙ lt-ltb i n k ∙ sym (lt-ltb i ways (lt-of-lt-of-le k h)))
+
+-- ---- reaching a number of ways
+
+-- a map that reaches no way at `ways` or above is a number below 2 ^ ways
+pub below-reach : (ways map : ℕ) → map < 2 ^ 16 → reaches ways map ≡ false → map < 2 ^ ways
+unfolding reaches
+below-reach ways map h e = high-none 16 ways map h absent
+  where
+    absent : (i : ℕ) → ways ≤ i → bit map i ≡ false
+    absent i k =
+        cases (ltb i 16)
+        (λ t. let r : (bit map i && leb ways i) ≡ false = none-at 16 (λ (w : ℕ). bit map w && leb ways w) i e (ltb-true i 16 t) in
+        sym (and-true (bit map i)) ∙ (rw (le-leb ways i k) at r))
+        (λ t. bit-high 16 map i h (ltb-false i 16 t))
+
+-- and a number below 2 ^ ways reaches none
+pub reach-below : (ways map : ℕ) → map < 2 ^ ways → reaches ways map ≡ false
+unfolding reaches
+reach-below ways map h = any-none 16 (λ i k. absent i)
+  where
+    absent : (i : ℕ) → (bit map i && leb ways i) ≡ false
+    absent i = cases (leb ways i) (λ t. rw (bit-high ways map i h (leb-true ways i t))) (λ t. rw t (and-false (bit map i)))
+
+-- shifting the ways below `ways` out leaves nothing where none is at `ways` or above
+pub shift-reach : (ways map : ℕ) → map < 2 ^ 16 → eqb (map / 2 ^ ways) 0 ≡ not (reaches ways map)
+shift-reach ways map h =
+    cases (reaches ways map)
+    (λ t. rw t (cases (eqb (map / 2 ^ ways) 0) (λ z. absurd (false≢true (sym (reach-below ways map (small z)) ∙ t))) (λ z. z)))
+    (λ t. rw t (eq-eqb (map / 2 ^ ways) 0 (div-eq-of-lt (below-reach ways map h t))))
+  where
+    small : eqb (map / 2 ^ ways) 0 ≡ true → map < 2 ^ ways
+    small z = rw one-mul at (div-lt-iff-lt-mul {k = 2 ^ ways} {x = map} {y = 1} (pow-pos ways) .0 (omega (arith, eqb-true (map / 2 ^ ways) 0 z)))

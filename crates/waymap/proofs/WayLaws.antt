@@ -1,0 +1,118 @@
+-- Whether some way passes a test, and the lowest that does; of a map, the test is its bit.
+use mathlib.Core.Path.{_≡_, refl, sym, ap, ap₂, _∙_}
+use mathlib.Core.Bool.{Bool, true, false, cond, not, _||_, false≢true}
+use Prim.Native.Nat.{ℕ, zero, suc, _+_, _*_, _/_, _%_, _^_, _≤_, _<_, zero-le, suc-le-suc}
+use native.Mathlib.Nat.{not-suc-le-zero, le-of-suc-le-suc}
+use native.Mathlib.Omega.{arith}
+use lib.Dec.{eqb}
+use lib.Count.{trailingZeros, under}
+use lib.Pow.{pow-pos}
+use borrow.Author.Tests.{eqb-true, eqb-false}
+use Rattle.waymap.specs.Bits.{Bits, bit, digit, any, lowest}
+use Rattle.waymap.proofs.Booleans.{cases}
+use Rattle.waymap.proofs.BitLaws.{digit-bit, bit-suc, bit-none}
+use Rattle.waymap.proofs.WordLaws.{bits-equal}
+
+-- ---- some way
+
+pub any-at : (n : ℕ) (p : Bits) (i : ℕ) → i < n → p i ≡ true → any n p ≡ true
+unfolding any
+any-at zero p i h e = absurd (not-suc-le-zero h)
+any-at (suc n) p zero h e = rw e
+any-at (suc n) p (suc i) h e =
+    let rest : any n (λ (j : ℕ). p (suc j)) ≡ true = any-at n (λ (j : ℕ). p (suc j)) i (le-of-suc-le-suc h) e in
+    cases (p 0) (λ t. rw t) (λ t. rw (t, rest))
+
+-- a way that passes, where there is one
+pub any-found : (n : ℕ) (p : Bits) → any n p ≡ true → (i : ℕ) × (i < n) × (p i ≡ true)
+unfolding any
+any-found zero p e = absurd (false≢true e)
+any-found (suc n) p e =
+    cases (p 0)
+    (λ t. (0, suc-le-suc zero-le, t))
+    (λ t. let r : (i : ℕ) × (i < n) × (p (suc i) ≡ true) = any-found n (λ (j : ℕ). p (suc j)) (rw t at e) in
+    (suc (r .0), suc-le-suc (r .1), r .2))
+
+pub any-ext : (n : ℕ) {p q : Bits} → ((i : ℕ) → i < n → p i ≡ q i) → any n p ≡ any n q
+unfolding any
+any-ext zero e = refl
+any-ext (suc n) e = ap₂ _||_ (e 0 (omega arith)) (any-ext n (λ i h. e (suc i) (omega arith)))
+
+-- none, where no way passes
+pub any-none : (n : ℕ) {p : Bits} → ((i : ℕ) → i < n → p i ≡ false) → any n p ≡ false
+unfolding any
+any-none zero e = refl
+any-none (suc n) e = rw (e 0 (omega arith)) (any-none n (λ i h. e (suc i) (omega arith)))
+
+-- and no way passes where there is none
+pub none-at : (n : ℕ) (p : Bits) (i : ℕ) → any n p ≡ false → i < n → p i ≡ false
+none-at n p i e h = cases (p i) (λ t. absurd (false≢true (sym e ∙ any-at n p i h t))) (λ t. t)
+
+pub any-or : (n : ℕ) (p q : Bits) → any n (λ (i : ℕ). p i || q i) ≡ (any n p || any n q)
+unfolding any
+any-or zero p q = refl
+any-or (suc n) p q =
+    ap (λ (r : Bool). p 0 || q 0 || r) (any-or n (λ (i : ℕ). p (suc i)) (λ (i : ℕ). q (suc i)))
+    ∙ shuffle (p 0) (q 0) (any n (λ (i : ℕ). p (suc i))) (any n (λ (i : ℕ). q (suc i)))
+  where
+    shuffle : (a b c d : Bool) → (a || b || (c || d)) ≡ (a || c || (b || d))
+    shuffle true b c d = refl
+    shuffle false true true d = refl
+    shuffle false true false d = refl
+    shuffle false false c d = refl
+
+-- ---- the lowest way
+
+pub lowest-ext : (n : ℕ) {p q : Bits} → ((i : ℕ) → i < n → p i ≡ q i) → lowest n p ≡ lowest n q
+unfolding lowest
+lowest-ext zero e = refl
+lowest-ext (suc n) e =
+    ap₂ (λ (b : Bool) (r : ℕ). cond b 0 (suc r)) (e 0 (omega arith)) (lowest-ext n (λ i h. e (suc i) (omega arith)))
+
+pub lowest-le : (n : ℕ) (p : Bits) → lowest n p ≤ n
+unfolding lowest
+lowest-le zero p = zero-le
+lowest-le (suc n) p = cases (p 0) (λ t. rw t zero-le) (λ t. rw t (suc-le-suc (lowest-le n (λ (i : ℕ). p (suc i)))))
+
+-- where some way passes, the lowest is one of them
+pub lowest-found : (n : ℕ) (p : Bits) → any n p ≡ true → (lowest n p < n) × (p (lowest n p) ≡ true)
+unfolding any lowest
+lowest-found zero p e = absurd (false≢true e)
+lowest-found (suc n) p e =
+    cases (p 0)
+    (λ t. rw t (suc-le-suc zero-le, t))
+    (λ t. let r : (lowest n (λ (j : ℕ). p (suc j)) < n) × (p (suc (lowest n (λ (j : ℕ). p (suc j)))) ≡ true) = lowest-found n (λ (j : ℕ). p (suc j)) (rw t at e) in
+    rw t (suc-le-suc (r .0), r .1))
+
+-- no way below it passes
+pub lowest-first : (n : ℕ) (p : Bits) (i : ℕ) → i < lowest n p → p i ≡ false
+unfolding lowest
+lowest-first zero p i h = absurd (not-suc-le-zero h)
+lowest-first (suc n) p zero h = cases (p 0) (λ t. absurd (not-suc-le-zero (rw t at h))) (λ t. t)
+lowest-first (suc n) p (suc i) h =
+    cases (p 0)
+    (λ t. absurd (not-suc-le-zero (rw t at h)))
+    (λ t. lowest-first n (λ (j : ℕ). p (suc j)) i (le-of-suc-le-suc (rw t at h)))
+
+-- ---- of a map
+
+-- a map is empty if and only if it is zero
+pub any-bits : (n x : ℕ) → x < 2 ^ n → any n (bit x) ≡ not (eqb x 0)
+any-bits n x h =
+    cases (eqb x 0)
+    (λ t. rw (t, eqb-true x 0 t) (any-none n (λ i k. bit-none i)))
+    (λ t. cases (any n (bit x))
+    (λ a. rw (a, t))
+    (λ a. absurd (eqb-false x 0 t (bits-equal n h (pow-pos n) (λ i k. none-at n (bit x) i a k ∙ sym (bit-none i))))))
+
+-- the machine's count of trailing zeros is the lowest way, and the width where the map is empty
+pub trailing-lowest : (n x : ℕ) → trailingZeros n x ≡ lowest n (bit x)
+unfolding trailingZeros lowest
+trailing-lowest zero x = refl
+trailing-lowest (suc n) x =
+    ap₂ under (digit-bit x) (trailing-lowest n (x / 2) ∙ lowest-ext n (λ i h. sym (bit-suc x i)))
+    ∙ pick (bit x 0) (lowest n (λ (i : ℕ). bit x (suc i)))
+  where
+    pick : (b : Bool) (r : ℕ) → under (digit b) r ≡ cond b 0 (suc r)
+    pick true r = refl
+    pick false r = refl

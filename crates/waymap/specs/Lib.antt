@@ -1,0 +1,2 @@
+-- What a way map is: `Bits`.
+pub mod Bits

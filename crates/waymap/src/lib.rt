@@ -1,0 +1,54 @@
+// Maps of ways: 16-bit words whose bit w stands for way w. Two maps are joined and masked by `|`, `&`, `^` and `!`, whose bits
+// proofs/BitLaws.antt gives; here is what takes a way, a number of ways, or a shift.
+ghost use mathlib.Core.Path.{_≡_};
+ghost use mathlib.Core.Bool.{not};
+ghost use Prim.Native.Nat.{ℕ};
+ghost use lib.Dec.{ltb, eqb};
+ghost use Rattle.waymap.specs.Bits.{bit, word, lowest, reaches};
+
+// Whether the map holds the way. No map holds way 16 or more.
+pub fn has(map: u16, way: usize) -> bool
+    ensures { λ r. ⌜ r ≡ bit map way ⌝ }
+{
+    if 16 <= way {
+        return false;
+    }
+    (map >> way) % 2 == 1
+}
+
+// The map of one way alone, empty for way 16 or more.
+pub fn only(way: usize) -> u16
+    ensures { λ r. ⌜ r ≡ word 16 (λ (w : ℕ). eqb way w) ⌝ }
+{
+    if 16 <= way {
+        return 0;
+    }
+    1 << way
+}
+
+// The map of the ways below `ways`: all sixteen for 16 or more.
+pub fn all(ways: usize) -> u16
+    ensures { λ r. ⌜ r ≡ word 16 (λ (w : ℕ). ltb w ways) ⌝ }
+{
+    if 16 <= ways {
+        return 65535;
+    }
+    (1 << ways) - 1
+}
+
+// Whether every way of the map is below `ways`.
+pub fn fits(map: u16, ways: usize) -> bool
+    ensures { λ r. ⌜ r ≡ not (reaches ways map) ⌝ }
+{
+    if 16 <= ways {
+        return true;
+    }
+    map >> ways == 0
+}
+
+// The lowest way of the map, 16 where it is empty.
+pub fn lowest_way(map: u16) -> usize
+    ensures { λ r. ⌜ r ≡ lowest 16 (bit map) ⌝ }
+{
+    u16::trailing_zeros(map) as usize
+}
