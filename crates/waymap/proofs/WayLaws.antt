@@ -1,15 +1,15 @@
 -- Whether some way passes a test, and the lowest that does; of a map, the test is its bit.
 use mathlib.Core.Path.{_≡_, refl, sym, ap, ap₂, _∙_}
-use mathlib.Core.Bool.{Bool, true, false, cond, not, _||_, false≢true}
+use mathlib.Core.Bool.{Bool, true, false, cond, not, _&&_, _||_, and-false, false≢true}
 use Prim.Native.Nat.{ℕ, zero, suc, _+_, _*_, _/_, _%_, _^_, _≤_, _<_, zero-le, suc-le-suc}
 use native.Mathlib.Nat.{not-suc-le-zero, le-of-suc-le-suc}
 use native.Mathlib.Omega.{arith}
 use lib.Dec.{eqb}
 use lib.Count.{trailingZeros, under}
 use lib.Pow.{pow-pos}
-use borrow.Author.Tests.{eqb-true, eqb-false}
+use borrow.Author.Tests.{eqb-true, eqb-false, eq-eqb}
 use Rattle.waymap.specs.Bits.{Bits, bit, digit, any, lowest}
-use Rattle.waymap.proofs.Booleans.{cases}
+use Rattle.waymap.proofs.Booleans.{cases, or-interchange}
 use Rattle.waymap.proofs.BitLaws.{digit-bit, bit-suc, bit-none}
 use Rattle.waymap.proofs.WordLaws.{bits-equal}
 
@@ -53,13 +53,14 @@ unfolding any
 any-or zero p q = refl
 any-or (suc n) p q =
     ap (λ (r : Bool). p 0 || q 0 || r) (any-or n (λ (i : ℕ). p (suc i)) (λ (i : ℕ). q (suc i)))
-    ∙ shuffle (p 0) (q 0) (any n (λ (i : ℕ). p (suc i))) (any n (λ (i : ℕ). q (suc i)))
-  where
-    shuffle : (a b c d : Bool) → (a || b || (c || d)) ≡ (a || c || (b || d))
-    shuffle true b c d = refl
-    shuffle false true true d = refl
-    shuffle false true false d = refl
-    shuffle false false c d = refl
+    ∙ or-interchange (p 0) (q 0) (any n (λ (i : ℕ). p (suc i))) (any n (λ (i : ℕ). q (suc i)))
+
+-- the test of one way
+pub any-one : (n : ℕ) (p : Bits) (v : ℕ) → v < n → any n (λ (i : ℕ). p i && eqb v i) ≡ p v
+any-one n p v h =
+    cases (p v)
+    (λ t. any-at n (λ (i : ℕ). p i && eqb v i) v h (rw (t, eq-eqb v v refl)) ∙ sym t)
+    (λ t. any-none n (λ i k. cases (eqb v i) (λ e. rw (← eqb-true v i e, t)) (λ e. rw (e, and-false (p i)))) ∙ sym t)
 
 -- ---- the lowest way
 

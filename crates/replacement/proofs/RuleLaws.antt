@@ -1,0 +1,99 @@
+-- Tree-PLRU and NRU keep domains apart: `Isolates` of each.
+use mathlib.Core.Path.{_≡_, refl, sym, ap, ap₂, _∙_}
+use mathlib.Core.Bool.{Bool, true, false, cond, _&&_, xor}
+use Prim.Native.Nat.{ℕ, zero, suc, _-_, _^_, _≤_, _<_}
+use native.Mathlib.Omega.{arith}
+use lib.Dec.{eqb, ltb}
+use borrow.Author.Tests.{ltb-true, lt-ltb}
+use Rattle.waymap.specs.Bits.{Bits, bit, word, any}
+use Rattle.waymap.proofs.Booleans.{cases, not-both}
+use Rattle.waymap.proofs.WordLaws.{bit-word}
+use Rattle.waymap.proofs.WayLaws.{none-at}
+use Rattle.replacement.specs.Tree as Tree
+use Rattle.replacement.specs.Nru as Nru
+use Rattle.replacement.specs.Rule.{Rule, bit64, tree, nru, ruleOf}
+use Rattle.replacement.specs.Isolates.{Isolates, SameOwn, Apart}
+use Rattle.replacement.proofs.TreeLaws as TreeLaws
+use Rattle.replacement.proofs.NruLaws as NruLaws
+
+-- ---- the view of a 64-bit word
+
+view-word : (f : Bits) (i : ℕ) → bit64 (word 64 f) i ≡ (ltb i 64 && f i)
+unfolding bit64
+view-word f i = cases (ltb i 64) (λ t. rw (t, bit-word 64 f i, t)) (λ t. rw t)
+
+view-bit : (x y i : ℕ) → i < 64 → bit64 x i ≡ bit64 y i → bit x i ≡ bit y i
+unfolding bit64
+view-bit x y i h e = rw (lt-ltb i 64 h) at e
+
+-- a word made bit by bit: a bit that is kept is viewed as it was, and one that goes by the old bit alone agrees where the old ones do
+view-stays : (f : Bits) (x i : ℕ) → f i ≡ bit x i → bit64 (word 64 f) i ≡ bit64 x i
+unfolding bit64
+view-stays f x i e = view-word f i ∙ ap (λ (t : Bool). ltb i 64 && t) e
+
+view-agrees : (f g : Bits) (x y i : ℕ) → bit64 x i ≡ bit64 y i → (bit x i ≡ bit y i → f i ≡ g i) → bit64 (word 64 f) i ≡ bit64 (word 64 g) i
+view-agrees f g x y i e step =
+    view-word f i
+    ∙ cases (ltb i 64) (λ t. ap (λ (b : Bool). ltb i 64 && b) (step (view-bit x y i (ltb-true i 64 t) e))) (λ t. rw t)
+    ∙ sym (view-word g i)
+
+view-same : (f g : Bits) (i : ℕ) → f i ≡ g i → bit64 (word 64 f) i ≡ bit64 (word 64 g) i
+view-same f g i e = view-word f i ∙ ap (λ (b : Bool). ltb i 64 && b) e ∙ sym (view-word g i)
+
+-- ---- Tree-PLRU
+
+pub tree-isolates : (W : ℕ) → W ≤ 64 → Isolates W (tree W)
+unfolding Tree.touch Tree.reset Tree.shares xor
+tree-isolates W bound = record {
+  victim-in = λ map x e. TreeLaws.victim-in W (bit map) (bit x) e;
+  victim-own = λ map x y same. TreeLaws.victim-free W (bit map) (λ i h t. view-bit x y i (omega arith) (same i t));
+  before-stays = λ map x c e. refl;
+  touch-stays = λ map w x c e. view-stays (Tree.touch W (bit map) w (bit x)) x c (rw e);
+  before-agrees = λ map x y c same e. e;
+  touch-agrees = λ map w x y c same e.
+      view-agrees (Tree.touch W (bit map) w (bit x)) (Tree.touch W (bit map) w (bit y)) x y c e
+      (λ q. ap (λ (t : Bool). cond (Tree.free W (bit map) c && Tree.under W c w) (Tree.under W (Tree.left c) w) t) q);
+  reset-agrees = λ old new x y c e.
+      view-agrees (Tree.reset W (bit old) (bit new) (bit x)) (Tree.reset W (bit old) (bit new) (bit y)) x y c e
+      (λ q. ap (λ (t : Bool). cond (xor (Tree.free W (bit old) c) (Tree.free W (bit new) c)) false t) q);
+  reset-clears = λ old new x y c p q. view-same (Tree.reset W (bit old) (bit new) (bit x)) (Tree.reset W (bit old) (bit new) (bit y)) c (rw (p, q));
+  own-writes = λ map c e. e;
+  empty-writes = λ map c none. TreeLaws.free-empty W (bit map) c none;
+  own-apart = λ map other c apart e own.
+      not-both (Tree.free W (bit map) c) (Tree.free W (bit other) c)
+      (none-at (W - 1) (λ (i : ℕ). Tree.free W (bit map) i && Tree.free W (bit other) i) c e (TreeLaws.free-node W (bit map) c own)) own;
+}
+
+-- ---- NRU
+
+-- words with the same own part agree on the ways of the map
+own-agree : (W map x y : ℕ) → W ≤ 64 → SameOwn (nru W) map x y → (w : ℕ) → w < W → bit map w ≡ true → bit x w ≡ bit y w
+own-agree W map x y bound same w h t = view-bit x y w (omega arith) (same w t)
+
+pub nru-isolates : (W : ℕ) → W ≤ 64 → Isolates W (nru W)
+unfolding Nru.touch Nru.reset xor
+nru-isolates W bound = record {
+  victim-in = λ map x e. NruLaws.victim-in W (bit map) (bit x) e;
+  victim-own = λ map x y same. NruLaws.victim-agrees W (bit map) (own-agree W map x y bound same);
+  before-stays = λ map x c e. view-stays (Nru.before W (bit map) (bit x)) x c (NruLaws.before-stays W (bit map) (bit x) c e);
+  touch-stays = λ map w x c e. view-stays (Nru.touch (bit map) w (bit x)) x c (NruLaws.touch-stays (bit map) w (bit x) c e);
+  before-agrees = λ map x y c same e.
+      view-agrees (Nru.before W (bit map) (bit x)) (Nru.before W (bit map) (bit y)) x y c e
+      (λ q. NruLaws.before-agrees W (bit map) c (own-agree W map x y bound same) q);
+  touch-agrees = λ map w x y c same e.
+      view-agrees (Nru.touch (bit map) w (bit x)) (Nru.touch (bit map) w (bit y)) x y c e
+      (λ q. ap (λ (t : Bool). cond (bit map w && eqb w c) false t) q);
+  reset-agrees = λ old new x y c e.
+      view-agrees (Nru.reset (bit old) (bit new) (bit x)) (Nru.reset (bit old) (bit new) (bit y)) x y c e
+      (λ q. ap (λ (t : Bool). cond (xor (bit old c) (bit new c)) true t) q);
+  reset-clears = λ old new x y c p q. view-same (Nru.reset (bit old) (bit new) (bit x)) (Nru.reset (bit old) (bit new) (bit y)) c (rw (p, q));
+  own-writes = λ map c e. e;
+  empty-writes = λ map c none. none c;
+  own-apart = λ map other c apart e own. not-both (bit map c) (bit other c) (apart c) own;
+}
+
+-- ---- every rule
+
+pub isolates : (rule W : ℕ) → W ≤ 64 → Isolates W (ruleOf rule W)
+isolates zero W bound = tree-isolates W bound
+isolates (suc rule) W bound = nru-isolates W bound

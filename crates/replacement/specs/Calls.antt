@@ -1,0 +1,69 @@
+-- What the public calls answer. "Called so, they answer 1 for a W or rule outside the limits, then 5 for a map or touched way reaching W
+-- or higher, or for a victim wanted of an empty map; the word is then unchanged."
+use mathlib.Core.Bool.{Bool, true, false, cond, not, _&&_, _||_}
+use mathlib.Core.List.{List, [], _∷_}
+use Prim.Native.Nat.{ℕ, suc, _^_}
+use lib.Dec.{eqb, ltb}
+use Rattle.waymap.specs.Bits.{bit, any, reaches}
+use Rattle.replacement.specs.Rule.{Rule, ruleOf}
+use Rattle.replacement.specs.declared.Reply.{Reply}
+use Rattle.replacement.specs.declared.Reply.the-variants.{Way, Done, OutsideLimits, OutOfReach, SharedNode}
+use Rattle.replacement.specs.declared.Outcome.{Outcome}
+
+-- Document 01's number and values of each answer: 0 and the values of a call that is not refused, else the number alone.
+abbrev pub answerOf : Reply → List ℕ
+answerOf (Way w) = 0 ∷ w ∷ []
+answerOf Done = 0 ∷ []
+answerOf OutsideLimits = 1 ∷ []
+answerOf OutOfReach = 5 ∷ []
+answerOf SharedNode = 9 ∷ []
+
+-- An answer with the word that the call leaves.
+pub record Result : Type 0 where
+  pub answer : List ℕ
+  pub word : ℕ
+
+abbrev pub result : Outcome → Result
+result r = record { answer = answerOf (r .reply); word = r .word }
+
+-- "Ways W: 2, 4, 8 or 16."
+unfoldable pub isWays : ℕ → Bool
+isWays W = any 4 (λ k. eqb W (2 ^ suc k))
+
+-- "Rule: 0 Tree-PLRU, 1 NRU."
+unfoldable pub inLimits : ℕ → ℕ → Bool
+inLimits W rule = isWays W && ltb rule 2
+
+-- What a call gives, by whether W and rule are within the limits, whether its maps and way are within W, and what it gives then.
+abbrev pub checked : Bool → Bool → ℕ → Result → Result
+checked false reach word given = record { answer = 1 ∷ []; word = word }
+checked true false word given = record { answer = 5 ∷ []; word = word }
+checked true true word given = given
+
+-- The victim of a word and a fill map, and the word before its touch.
+unfoldable pub victimOf : ℕ → ℕ → ℕ → ℕ → Result
+victimOf W rule word map =
+    checked (inLimits W rule) (not (reaches W map) && any 16 (bit map)) word
+    (record { answer = 0 ∷ ruleOf rule W .victim map word ∷ []; word = ruleOf rule W .before map word })
+
+-- The word after a touch of a way.
+unfoldable pub touchOf : ℕ → ℕ → ℕ → ℕ → ℕ → Result
+touchOf W rule word map way =
+    checked (inLimits W rule) (not (reaches W map) && ltb way W) word
+    (record { answer = 0 ∷ []; word = ruleOf rule W .touch map way word })
+
+-- The word after a change of fill map.
+unfoldable pub resetOf : ℕ → ℕ → ℕ → ℕ → ℕ → Result
+resetOf W rule word old new =
+    checked (inLimits W rule) (not (reaches W old) && not (reaches W new)) word
+    (record { answer = 0 ∷ []; word = ruleOf rule W .reset old new word })
+
+-- The word of a fresh cache; 0 where the call is refused.
+unfoldable pub freshOf : ℕ → ℕ → Result
+freshOf W rule = checked (inLimits W rule) true 0 (record { answer = 0 ∷ []; word = ruleOf rule W .fresh })
+
+-- Whether two domains may have these fill maps: 9 if the rule has them share a node.
+unfoldable pub sharesOf : ℕ → ℕ → ℕ → ℕ → List ℕ
+sharesOf W rule map other =
+    checked (inLimits W rule) (not (reaches W map) && not (reaches W other)) 0
+    (record { answer = cond (ruleOf rule W .shares map other) 9 0 ∷ []; word = 0 }) .answer
