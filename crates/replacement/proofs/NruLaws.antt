@@ -14,7 +14,7 @@ abbrev Agree : ℕ → Bits → Bits → Bits → Type 0
 Agree W m b c = (w : ℕ) → w < W → m w ≡ true → b w ≡ c w
 
 -- the word before the touch has a bit that is one in the map
-ready : (W : ℕ) (m b : Bits) → any W m ≡ true → any W (λ (w : ℕ). m w && before W m b w) ≡ true
+pub ready : (W : ℕ) (m b : Bits) → any W m ≡ true → any W (λ (w : ℕ). m w && before W m b w) ≡ true
 unfolding before
 ready W m b e =
     cases (any W (λ (v : ℕ). m v && b v))

@@ -24,13 +24,19 @@ passes-more zero i (suc j) h = absurd (omega arith)
 passes-more (suc k) i j h = ap (λ (t : Bool). eqb i j || t) (passes-more k i (parent j) (omega arith))
 
 -- no way up passes a place beyond its start
-passes-back : (k i j : ℕ) → j < i → passes k i j ≡ false
+pub passes-back : (k i j : ℕ) → j < i → passes k i j ≡ false
 unfolding passes
 passes-back zero i j h = ne-eqb i j (λ e. omega arith)
 passes-back (suc k) i j h = rw (ne-eqb i j (λ e. omega arith)) (passes-back k i (parent j) (omega arith))
 
+-- one step up
+pub passes-step : (k i j : ℕ) → j < k → passes k i j ≡ (eqb i j || passes k i (parent j))
+unfolding passes
+passes-step zero i j h = absurd (omega arith)
+passes-step (suc k) i j h = ap (λ (t : Bool). eqb i j || t) (sym (passes-more k i (parent j) (omega arith)))
+
 -- every way up ends at the root
-passes-root : (k j : ℕ) → j ≤ k → passes k 0 j ≡ true
+pub passes-root : (k j : ℕ) → j ≤ k → passes k 0 j ≡ true
 unfolding passes
 passes-root zero j h = eq-eqb 0 j (omega arith)
 passes-root (suc k) j h = rw (passes-root k (parent j) (omega arith)) (or-true (eqb 0 j))

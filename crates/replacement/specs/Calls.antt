@@ -1,5 +1,4 @@
--- What the public calls answer. "Called so, they answer 1 for a W or rule outside the limits, then 5 for a map or touched way reaching W
--- or higher, or for a victim wanted of an empty map; the word is then unchanged."
+-- What the public calls answer.
 use mathlib.Core.Bool.{Bool, true, false, cond, not, _&&_, _||_}
 use mathlib.Core.List.{List, [], _∷_}
 use Prim.Native.Nat.{ℕ, suc, _^_}
@@ -34,36 +33,42 @@ isWays W = any 4 (λ k. eqb W (2 ^ suc k))
 unfoldable pub inLimits : ℕ → ℕ → Bool
 inLimits W rule = isWays W && ltb rule 2
 
--- What a call gives, by whether W and rule are within the limits, whether its maps and way are within W, and what it gives then.
-abbrev pub checked : Bool → Bool → ℕ → Result → Result
-checked false reach word given = record { answer = 1 ∷ []; word = word }
-checked true false word given = record { answer = 5 ∷ []; word = word }
-checked true true word given = given
+-- "they answer 1 for a W or rule outside the limits, then 5 for a map or touched way reaching W or higher": what a call gives, by whether
+-- W and rule are within the limits, whether its maps and way are within W, and what a refusal and the call itself give.
+module _ {A : Type 0} where
+  abbrev pub checked : Bool → Bool → (ℕ → A) → A → A
+  checked false reach refuse given = refuse 1
+  checked true false refuse given = refuse 5
+  checked true true refuse given = given
+
+-- "the word is then unchanged"
+abbrev pub refusing : ℕ → ℕ → Result
+refusing word n = record { answer = n ∷ []; word = word }
 
 -- The victim of a word and a fill map, and the word before its touch.
 unfoldable pub victimOf : ℕ → ℕ → ℕ → ℕ → Result
 victimOf W rule word map =
-    checked (inLimits W rule) (not (reaches W map) && any 16 (bit map)) word
+    checked (inLimits W rule) (not (reaches W map) && any 16 (bit map)) (refusing word)
     (record { answer = 0 ∷ ruleOf rule W .victim map word ∷ []; word = ruleOf rule W .before map word })
 
 -- The word after a touch of a way.
 unfoldable pub touchOf : ℕ → ℕ → ℕ → ℕ → ℕ → Result
 touchOf W rule word map way =
-    checked (inLimits W rule) (not (reaches W map) && ltb way W) word
+    checked (inLimits W rule) (not (reaches W map) && ltb way W) (refusing word)
     (record { answer = 0 ∷ []; word = ruleOf rule W .touch map way word })
 
 -- The word after a change of fill map.
 unfoldable pub resetOf : ℕ → ℕ → ℕ → ℕ → ℕ → Result
 resetOf W rule word old new =
-    checked (inLimits W rule) (not (reaches W old) && not (reaches W new)) word
+    checked (inLimits W rule) (not (reaches W old) && not (reaches W new)) (refusing word)
     (record { answer = 0 ∷ []; word = ruleOf rule W .reset old new word })
 
 -- The word of a fresh cache; 0 where the call is refused.
 unfoldable pub freshOf : ℕ → ℕ → Result
-freshOf W rule = checked (inLimits W rule) true 0 (record { answer = 0 ∷ []; word = ruleOf rule W .fresh })
+freshOf W rule = checked (inLimits W rule) true (refusing 0) (record { answer = 0 ∷ []; word = ruleOf rule W .fresh })
 
--- Whether two domains may have these fill maps: 9 if the rule has them share a node.
+-- Whether two domains may have these fill maps: 9 where the rule has them share a node.
 unfoldable pub sharesOf : ℕ → ℕ → ℕ → ℕ → List ℕ
 sharesOf W rule map other =
-    checked (inLimits W rule) (not (reaches W map) && not (reaches W other)) 0
-    (record { answer = cond (ruleOf rule W .shares map other) 9 0 ∷ []; word = 0 }) .answer
+    checked (inLimits W rule) (not (reaches W map) && not (reaches W other)) (λ n. n ∷ [])
+    (cond (ruleOf rule W .shares map other) 9 0 ∷ [])

@@ -4,3 +4,4 @@ pub mod Nru
 pub mod Rule
 pub mod Isolates
 pub mod Calls
+pub mod Inside

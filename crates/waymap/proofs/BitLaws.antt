@@ -36,6 +36,10 @@ remainder (suc (suc r)) h = absurd (omega arith)
 pub digit-bit : (n : ℕ) → n % 2 ≡ digit (bit n 0)
 digit-bit n = remainder (n % 2) (omega arith) ∙ ap digit (sym (bit-zero n))
 
+pub digit-at : (n i : ℕ) → n / 2 ^ i % 2 ≡ digit (bit n i)
+unfolding bit
+digit-at n i = remainder (n / 2 ^ i % 2) (omega arith)
+
 pub bit-none : (i : ℕ) → bit 0 i ≡ false
 unfolding bit
 bit-none i = rw zero-div

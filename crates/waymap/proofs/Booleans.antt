@@ -1,6 +1,6 @@
 -- Tests decided both ways, and laws of `&&` and `||`.
 use mathlib.Core.Path.{_≡_, refl, sym}
-use mathlib.Core.Bool.{Bool, true, false, _&&_, _||_}
+use mathlib.Core.Bool.{Bool, true, false, _&&_, _||_, true≢false}
 
 -- a test decided, with what it says in hand
 pub cases {ℓ} : {A : Type ℓ} (b : Bool) → (b ≡ true → A) → (b ≡ false → A) → A
@@ -21,6 +21,10 @@ pub and-right : (a b : Bool) → (a && b) ≡ true → b ≡ true
 and-right true b e = e
 and-right false true e = refl
 and-right false false e = e
+
+pub or-none : (a b : Bool) → (a || b) ≡ false → (a ≡ false) × (b ≡ false)
+or-none true b e = absurd (true≢false e)
+or-none false b e = (refl, e)
 
 -- of two that are not both true, the second is false where the first is true
 pub not-both : (a b : Bool) → (a && b) ≡ false → a ≡ true → b ≡ false

@@ -1,17 +1,18 @@
 -- The maps of one way and of the first ways, and maps that reach a number of ways, for every width.
 use mathlib.Core.Path.{_≡_, refl, sym, ap, _∙_}
-use mathlib.Core.Bool.{Bool, true, false, not, _&&_, and-true, and-false, false≢true}
+use mathlib.Core.Bool.{Bool, true, false, not, _&&_, _||_, and-true, and-false, and-or-distrib-right, false≢true}
 use Prim.Native.Nat.{ℕ, zero, suc, _+_, _-_, _*_, _/_, _%_, _^_, _≤_, _<_}
 use native.Mathlib.Nat.{one-mul, div-eq-of-lt, div-lt-iff-lt-mul, lt-of-le-of-lt, lt-of-lt-of-le}
 use native.Mathlib.Omega.{arith}
 use lib.Dec.{eqb, leb, ltb}
+use lib.Bits.{bitOr}
 use lib.Pow.{pow-pos, pow-lt, shl-exact}
 use borrow.Author.Tests.{eqb-true, ne-eqb, eq-eqb, lt-ltb, ltb-true, ltb-false, le-leb, leb-true}
 use Rattle.waymap.specs.Bits.{Bits, bit, word, any, reaches}
 use Rattle.waymap.proofs.Booleans.{cases}
-use Rattle.waymap.proofs.BitLaws.{bit-none, bit-pow, bit-ones}
+use Rattle.waymap.proofs.BitLaws.{bit-none, bit-pow, bit-ones, bit-or}
 use Rattle.waymap.proofs.WordLaws.{from-bits, bit-high, high-none}
-use Rattle.waymap.proofs.WayLaws.{any-none, none-at}
+use Rattle.waymap.proofs.WayLaws.{any-none, none-at, any-ext, any-or}
 
 -- ---- one way, and the first ways
 
@@ -32,6 +33,10 @@ first-ways n ways h =
 pub every-way : (n ways : ℕ) → n ≤ ways → 2 ^ n - 1 ≡ word n (λ (w : ℕ). ltb w ways)
 every-way n ways h =
     from-bits n (omega (arith, pow-pos n)) (λ i k. bit-ones n i ∙ lt-ltb i n k ∙ sym (lt-ltb i ways (lt-of-lt-of-le k h)))
+
+-- the empty map has no way
+pub none-empty : (n : ℕ) → any n (bit 0) ≡ false
+none-empty n = any-none n (λ i h. bit-none i)
 
 -- ---- reaching a number of ways
 
@@ -64,3 +69,10 @@ shift-reach ways map h =
   where
     small : eqb (map / 2 ^ ways) 0 ≡ true → map < 2 ^ ways
     small z = rw one-mul at (div-lt-iff-lt-mul {k = 2 ^ ways} {x = map} {y = 1} (pow-pos ways) .0 (omega (arith, eqb-true (map / 2 ^ ways) 0 z)))
+
+-- two maps joined reach where one of them does
+pub reach-or : (ways a b : ℕ) → reaches ways (bitOr a b) ≡ (reaches ways a || reaches ways b)
+unfolding reaches
+reach-or ways a b =
+    any-ext 16 (λ i k. ap (λ (t : Bool). t && leb ways i) (bit-or a b i) ∙ and-or-distrib-right (bit a i) (bit b i) (leb ways i))
+    ∙ any-or 16 (λ (i : ℕ). bit a i && leb ways i) (λ (i : ℕ). bit b i && leb ways i)

@@ -2,12 +2,12 @@
 use mathlib.Core.Path.{_≡_, refl, sym, ap, ap₂, _∙_}
 use mathlib.Core.Bool.{Bool, true, false, cond, not, _&&_, _||_, and-false, false≢true}
 use Prim.Native.Nat.{ℕ, zero, suc, _+_, _*_, _/_, _%_, _^_, _≤_, _<_, zero-le, suc-le-suc}
-use native.Mathlib.Nat.{not-suc-le-zero, le-of-suc-le-suc}
+use native.Mathlib.Nat.{not-suc-le-zero, le-of-suc-le-suc, lt-of-lt-of-le}
 use native.Mathlib.Omega.{arith}
-use lib.Dec.{eqb}
+use lib.Dec.{eqb, ltb}
 use lib.Count.{trailingZeros, under}
 use lib.Pow.{pow-pos}
-use borrow.Author.Tests.{eqb-true, eqb-false, eq-eqb}
+use borrow.Author.Tests.{eqb-true, eqb-false, eq-eqb, ltb-true, ltb-false}
 use Rattle.waymap.specs.Bits.{Bits, bit, digit, any, lowest}
 use Rattle.waymap.proofs.Booleans.{cases, or-interchange}
 use Rattle.waymap.proofs.BitLaws.{digit-bit, bit-suc, bit-none}
@@ -62,6 +62,17 @@ any-one n p v h =
     (λ t. any-at n (λ (i : ℕ). p i && eqb v i) v h (rw (t, eq-eqb v v refl)) ∙ sym t)
     (λ t. any-none n (λ i k. cases (eqb v i) (λ e. rw (← eqb-true v i e, t)) (λ e. rw (e, and-false (p i)))) ∙ sym t)
 
+-- no way passes from k on
+pub any-wider : (k n : ℕ) (p : Bits) → k ≤ n → ((i : ℕ) → k ≤ i → p i ≡ false) → any n p ≡ any k p
+any-wider k n p h none =
+    cases (any n p)
+    (λ t. let r : (i : ℕ) × (i < n) × (p i ≡ true) = any-found n p t in
+    t ∙ sym (any-at k p (r .0) (inside (r .0) (r .2)) (r .2)))
+    (λ t. t ∙ sym (any-none k (λ i l. none-at n p i t (lt-of-lt-of-le l h))))
+  where
+    inside : (i : ℕ) → p i ≡ true → i < k
+    inside i e = cases (ltb i k) (λ t. ltb-true i k t) (λ t. absurd (false≢true (sym (none i (ltb-false i k t)) ∙ e)))
+
 -- ---- the lowest way
 
 pub lowest-ext : (n : ℕ) {p q : Bits} → ((i : ℕ) → i < n → p i ≡ q i) → lowest n p ≡ lowest n q
@@ -94,6 +105,14 @@ lowest-first (suc n) p (suc i) h =
     cases (p 0)
     (λ t. absurd (not-suc-le-zero (rw t at h)))
     (λ t. lowest-first n (λ (j : ℕ). p (suc j)) i (le-of-suc-le-suc (rw t at h)))
+
+-- where some way below k passes, looking further changes nothing
+pub lowest-wider : (k n : ℕ) (p : Bits) → k ≤ n → any k p ≡ true → lowest n p ≡ lowest k p
+unfolding any lowest
+lowest-wider zero n p h e = absurd (false≢true e)
+lowest-wider (suc k) zero p h e = absurd (not-suc-le-zero h)
+lowest-wider (suc k) (suc n) p h e =
+    cases (p 0) (λ t. rw t) (λ t. rw t (ap suc (lowest-wider k n (λ (i : ℕ). p (suc i)) (le-of-suc-le-suc h) (rw t at e))))
 
 -- ---- of a map
 
