@@ -8,7 +8,7 @@ use lib.Dec.{eqb, ltb, lit≤}
 use lib.Bits.{bitAnd, bitOr, bitXor, and-le-l, or-lt, xor-lt}
 use borrow.Author.Tests.{eqb-true, ne-eqb, ltb-true, ltb-false, lt-ltb, le-ltb}
 use Rattle.waymap.specs.Bits.{Bits, bit, word, any, lowest}
-use Rattle.waymap.proofs.Booleans.{cases}
+use Rattle.waymap.proofs.Booleans.{cases, cleared, raised}
 use Rattle.waymap.proofs.BitLaws.{bit-none, bit-and, bit-or, bit-xor, bit-not, bit-mod}
 use Rattle.waymap.proofs.WordLaws.{word-lt, word-bit, bit-word, word-ext, from-bits, bit-high}
 use Rattle.waymap.proofs.WayLaws.{any-ext, any-none, any-bits, any-wider, lowest-ext, lowest-wider}
@@ -94,23 +94,13 @@ touch-word map way x {one} h k e =
     ∙ ap (λ (t : Bool). bit x i && t)
     (bit-not 64 (bitAnd map one) i (lt-of-le-of-lt (and-le-l map one) (lt-of-lt-of-le h (lit≤ tt)))
     ∙ rw (lt-ltb i 64 l, e, touched-bit map way i h))
-    ∙ clear (bit map way && eqb way i) (bit x i))
-  where
-    clear : (c b : Bool) → (b && not c) ≡ cond c false b
-    clear true b = and-false b
-    clear false b = and-true b
+    ∙ cleared (bit map way && eqb way i) (bit x i))
 
 pub reset-word : (old new x : ℕ) → old < 2 ^ 16 → new < 2 ^ 16 → x < 2 ^ 64 → bitOr x (bitXor old new) ≡ word 64 (reset (bit old) (bit new) (bit x))
 unfolding reset
 reset-word old new x h k l =
     from-bits 64 (or-lt 64 x (bitXor old new) l (lt-of-lt-of-le (xor-lt 16 old new h k) (lit≤ tt)))
-    (λ i m. bit-or x (bitXor old new) i ∙ ap (λ (t : Bool). bit x i || t) (bit-xor old new i) ∙ raise (xor (bit old i) (bit new i)) (bit x i))
-  where
-    raise : (c b : Bool) → (b || c) ≡ cond c true b
-    raise true true = refl
-    raise true false = refl
-    raise false true = refl
-    raise false false = refl
+    (λ i m. bit-or x (bitXor old new) i ∙ ap (λ (t : Bool). bit x i || t) (bit-xor old new i) ∙ raised (xor (bit old i) (bit new i)) (bit x i))
 
 pub fresh-word : (W : ℕ) → W ≤ 16 → word 16 (λ (w : ℕ). ltb w W) ≡ word 64 (fresh W)
 unfolding fresh

@@ -8,7 +8,7 @@ use lib.Dec.{eqb, ltb, lit≤}
 use lib.Bits.{bitAnd, bitOr, bitXor, and-le-l, or-lt, xor-lt}
 use borrow.Author.Tests.{ltb-true, lt-ltb}
 use Rattle.waymap.specs.Bits.{Bits, bit, word, any}
-use Rattle.waymap.proofs.Booleans.{cases}
+use Rattle.waymap.proofs.Booleans.{cases, cleared}
 use Rattle.waymap.proofs.BitLaws.{bit-and, bit-or, bit-xor, bit-not}
 use Rattle.waymap.proofs.WordLaws.{word-lt, bit-word, bit-word-in, from-bits}
 use Rattle.waymap.proofs.WayLaws.{any-ext, any-bits, any-wider}
@@ -95,11 +95,7 @@ reset-word W m n x {frees} {others} hx e f =
     ∙ ap (λ (t : Bool). bit x i && t)
     (bit-not 64 (bitXor frees others) i (xor-lt 64 frees others (rw e (word-lt 64 (free W m))) (rw f (word-lt 64 (free W n))))
     ∙ rw (lt-ltb i 64 h, bit-xor frees others i, e, f, bit-word-in 64 (free W m) i h, bit-word-in 64 (free W n) i h))
-    ∙ clear (xor (free W m i) (free W n i)) (bit x i))
-  where
-    clear : (c b : Bool) → (b && not c) ≡ cond c false b
-    clear true b = and-false b
-    clear false b = and-true b
+    ∙ cleared (xor (free W m i) (free W n i)) (bit x i))
 
 -- ---- a node that is free for two maps
 

@@ -25,7 +25,7 @@ pub struct Outcome {
 }
 
 // Whether the number of ways and the rule are within the limits.
-fn in_limits(ways: usize, rule: usize) -> bool
+pub fn in_limits(ways: usize, rule: usize) -> bool
     ensures { λ r. ⌜ r ≡ inLimits ways rule ⌝ }
 {
     match ways {

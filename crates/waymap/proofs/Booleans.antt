@@ -1,6 +1,6 @@
 -- Tests decided both ways, and laws of `&&` and `||`.
 use mathlib.Core.Path.{_≡_, refl, sym}
-use mathlib.Core.Bool.{Bool, true, false, _&&_, _||_, true≢false}
+use mathlib.Core.Bool.{Bool, true, false, cond, not, _&&_, _||_, and-true, and-false, or-true, or-false, true≢false}
 
 -- a test decided, with what it says in hand
 pub cases {ℓ} : {A : Type ℓ} (b : Bool) → (b ≡ true → A) → (b ≡ false → A) → A
@@ -12,6 +12,15 @@ or-interchange true b c d = refl
 or-interchange false true true d = refl
 or-interchange false true false d = refl
 or-interchange false false c d = refl
+
+-- a bit cleared, and a bit set, where a test holds
+pub cleared : (t b : Bool) → (b && not t) ≡ cond t false b
+cleared true b = and-false b
+cleared false b = and-true b
+
+pub raised : (t b : Bool) → (b || t) ≡ cond t true b
+raised true b = or-true b
+raised false b = or-false b
 
 pub and-left : (a b : Bool) → (a && b) ≡ true → a ≡ true
 and-left true b e = refl

@@ -1,17 +1,17 @@
 -- The maps of one way and of the first ways, and maps that reach a number of ways, for every width.
 use mathlib.Core.Path.{_≡_, refl, sym, ap, _∙_}
-use mathlib.Core.Bool.{Bool, true, false, not, _&&_, _||_, and-true, and-false, and-or-distrib-right, false≢true}
+use mathlib.Core.Bool.{Bool, true, false, cond, not, _&&_, _||_, and-true, and-false, and-or-distrib-right, false≢true}
 use Prim.Native.Nat.{ℕ, zero, suc, _+_, _-_, _*_, _/_, _%_, _^_, _≤_, _<_}
 use native.Mathlib.Nat.{one-mul, div-eq-of-lt, div-lt-iff-lt-mul, lt-of-le-of-lt, lt-of-lt-of-le}
 use native.Mathlib.Omega.{arith}
 use lib.Dec.{eqb, leb, ltb}
-use lib.Bits.{bitOr}
+use lib.Bits.{bitAnd, bitOr, and-le-l, or-lt}
 use lib.Pow.{pow-pos, pow-lt, shl-exact}
 use borrow.Author.Tests.{eqb-true, ne-eqb, eq-eqb, lt-ltb, ltb-true, ltb-false, le-leb, leb-true}
-use Rattle.waymap.specs.Bits.{Bits, bit, word, any, reaches}
-use Rattle.waymap.proofs.Booleans.{cases}
-use Rattle.waymap.proofs.BitLaws.{bit-none, bit-pow, bit-ones, bit-or}
-use Rattle.waymap.proofs.WordLaws.{from-bits, bit-high, high-none}
+use Rattle.waymap.specs.Bits.{Bits, bit, word, any, put, reaches}
+use Rattle.waymap.proofs.Booleans.{cases, cleared, raised}
+use Rattle.waymap.proofs.BitLaws.{bit-none, bit-pow, bit-ones, bit-and, bit-or, bit-not}
+use Rattle.waymap.proofs.WordLaws.{word-lt, bit-word-in, from-bits, bit-high, high-none}
 use Rattle.waymap.proofs.WayLaws.{any-none, none-at, any-ext, any-or}
 
 -- ---- one way, and the first ways
@@ -33,6 +33,23 @@ first-ways n ways h =
 pub every-way : (n ways : ℕ) → n ≤ ways → 2 ^ n - 1 ≡ word n (λ (w : ℕ). ltb w ways)
 every-way n ways h =
     from-bits n (omega (arith, pow-pos n)) (λ i k. bit-ones n i ∙ lt-ltb i n k ∙ sym (lt-ltb i ways (lt-of-lt-of-le k h)))
+
+-- joining one way to a map, and taking it out
+pub put-in : (way map : ℕ) {one : ℕ} → map < 2 ^ 16 → one ≡ word 16 (λ (w : ℕ). eqb way w) → bitOr map one ≡ put way true map
+unfolding put
+put-in way map {one} h e =
+    from-bits 16 (or-lt 16 map one h (rw e (word-lt 16 (λ (w : ℕ). eqb way w))))
+    (λ i k. bit-or map one i ∙ rw (e, bit-word-in 16 (λ (w : ℕ). eqb way w) i k) (raised (eqb way i) (bit map i)))
+
+pub put-out : (way map : ℕ) {one : ℕ} → map < 2 ^ 16 → one ≡ word 16 (λ (w : ℕ). eqb way w) → bitAnd map (2 ^ 16 - 1 - one) ≡ put way false map
+unfolding put
+put-out way map {one} h e =
+    from-bits 16 (lt-of-le-of-lt (and-le-l map (2 ^ 16 - 1 - one)) h)
+    (λ i k.
+    bit-and map (2 ^ 16 - 1 - one) i
+    ∙ ap (λ (t : Bool). bit map i && t)
+    (bit-not 16 one i (rw e (word-lt 16 (λ (w : ℕ). eqb way w))) ∙ rw (lt-ltb i 16 k, e, bit-word-in 16 (λ (w : ℕ). eqb way w) i k))
+    ∙ cleared (eqb way i) (bit map i))
 
 -- the empty map has no way
 pub none-empty : (n : ℕ) → any n (bit 0) ≡ false

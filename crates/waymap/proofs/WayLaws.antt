@@ -2,15 +2,15 @@
 use mathlib.Core.Path.{_≡_, refl, sym, ap, ap₂, _∙_}
 use mathlib.Core.Bool.{Bool, true, false, cond, not, _&&_, _||_, and-false, false≢true}
 use Prim.Native.Nat.{ℕ, zero, suc, _+_, _*_, _/_, _%_, _^_, _≤_, _<_, zero-le, suc-le-suc}
-use native.Mathlib.Nat.{not-suc-le-zero, le-of-suc-le-suc, lt-of-lt-of-le}
+use native.Mathlib.Nat.{not-suc-le-zero, le-of-suc-le-suc, lt-of-lt-of-le, le-of-eq, zero-add, pow-suc}
 use native.Mathlib.Omega.{arith}
 use lib.Dec.{eqb, ltb}
-use lib.Count.{trailingZeros, under}
+use lib.Count.{trailingZeros, under, ones, ones-step, ones-le}
 use lib.Pow.{pow-pos}
-use borrow.Author.Tests.{eqb-true, eqb-false, eq-eqb, ltb-true, ltb-false}
-use Rattle.waymap.specs.Bits.{Bits, bit, digit, any, lowest}
+use borrow.Author.Tests.{eqb-true, eqb-false, eq-eqb, ltb-true, ltb-false, lt-ltb, le-ltb}
+use Rattle.waymap.specs.Bits.{Bits, bit, digit, any, lowest, count}
 use Rattle.waymap.proofs.Booleans.{cases, or-interchange}
-use Rattle.waymap.proofs.BitLaws.{digit-bit, bit-suc, bit-none}
+use Rattle.waymap.proofs.BitLaws.{digit-lt, digit-bit, bit-suc, bit-none}
 use Rattle.waymap.proofs.WordLaws.{bits-equal}
 
 -- ---- some way
@@ -114,6 +114,48 @@ lowest-wider (suc k) zero p h e = absurd (not-suc-le-zero h)
 lowest-wider (suc k) (suc n) p h e =
     cases (p 0) (λ t. rw t) (λ t. rw t (ap suc (lowest-wider k n (λ (i : ℕ). p (suc i)) (le-of-suc-le-suc h) (rw t at e))))
 
+-- the first way that passes is the lowest
+pub lowest-is : (n : ℕ) (p : Bits) (i : ℕ) → i < n → ((k : ℕ) → k < i → p k ≡ false) → p i ≡ true → lowest n p ≡ i
+unfolding lowest
+lowest-is zero p i h none e = absurd (not-suc-le-zero h)
+lowest-is (suc n) p zero h none e = rw e
+lowest-is (suc n) p (suc i) h none e =
+    rw (none 0 (suc-le-suc zero-le)) (ap suc (lowest-is n (λ (j : ℕ). p (suc j)) i (le-of-suc-le-suc h) (λ k l. none (suc k) (suc-le-suc l)) e))
+
+pub lowest-none : (n : ℕ) (p : Bits) → ((k : ℕ) → k < n → p k ≡ false) → lowest n p ≡ n
+unfolding lowest
+lowest-none zero p none = refl
+lowest-none (suc n) p none =
+    rw (none 0 (suc-le-suc zero-le)) (ap suc (lowest-none n (λ (j : ℕ). p (suc j)) (λ k l. none (suc k) (suc-le-suc l))))
+
+-- some way passes if and only if there is a lowest
+pub any-lowest : (n : ℕ) (p : Bits) → any n p ≡ ltb (lowest n p) n
+any-lowest n p =
+    cases (any n p)
+    (λ t. t ∙ sym (lt-ltb (lowest n p) n (lowest-found n p t .0)))
+    (λ t. t ∙ sym (le-ltb (lowest n p) n (le-of-eq (sym (lowest-none n p (λ k l. none-at n p k t l))))))
+
+-- ---- how many ways
+
+pub count-ext : (n : ℕ) {p q : Bits} → ((i : ℕ) → i < n → p i ≡ q i) → count n p ≡ count n q
+unfolding count
+count-ext zero e = refl
+count-ext (suc n) e = ap₂ (λ (b : Bool) (r : ℕ). digit b + r) (e 0 (omega arith)) (count-ext n (λ i h. e (suc i) (omega arith)))
+
+pub count-le : (n : ℕ) (p : Bits) → count n p ≤ n
+unfolding count
+count-le zero p = zero-le
+count-le (suc n) p = omega (arith, digit-lt (p 0), count-le n (λ (i : ℕ). p (suc i)))
+
+-- no way passes from k on
+pub count-wider : (k n : ℕ) (p : Bits) → k ≤ n → ((i : ℕ) → k ≤ i → p i ≡ false) → count n p ≡ count k p
+unfolding count
+count-wider zero zero p h none = refl
+count-wider zero (suc n) p h none = rw (none 0 zero-le) (zero-add (count n (λ (i : ℕ). p (suc i))) ∙ count-wider zero n (λ (i : ℕ). p (suc i)) zero-le (λ i l. none (suc i) zero-le))
+count-wider (suc k) zero p h none = absurd (not-suc-le-zero h)
+count-wider (suc k) (suc n) p h none =
+    ap (λ (r : ℕ). digit (p 0) + r) (count-wider k n (λ (i : ℕ). p (suc i)) (le-of-suc-le-suc h) (λ i l. none (suc i) (suc-le-suc l)))
+
 -- ---- of a map
 
 -- a map is empty if and only if it is zero
@@ -136,3 +178,11 @@ trailing-lowest (suc n) x =
     pick : (b : Bool) (r : ℕ) → under (digit b) r ≡ cond b 0 (suc r)
     pick true r = refl
     pick false r = refl
+
+-- the machine's count of ones is the number of ways
+pub ones-count : (n x : ℕ) → x < 2 ^ n → ones x ≡ count n (bit x)
+unfolding count
+ones-count zero x h = let e : x ≡ 0 = omega arith in rw e (omega (arith, ones-le 0 0 (omega arith)))
+ones-count (suc n) x h =
+    ones-step x
+    ∙ ap₂ _+_ (digit-bit x) (ones-count n (x / 2) (omega (arith, pow-suc 2 n)) ∙ count-ext n (λ i k. sym (bit-suc x i)))

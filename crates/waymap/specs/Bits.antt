@@ -31,6 +31,15 @@ unfoldable pub lowest : ℕ → Bits → ℕ
 lowest zero p = 0
 lowest (suc n) p = cond (p 0) 0 (suc (lowest n (λ i. p (suc i))))
 
+-- How many places below n pass the test.
+unfoldable pub count : ℕ → Bits → ℕ
+count zero p = 0
+count (suc n) p = digit (p 0) + count n (λ i. p (suc i))
+
+-- A map with way w made a member or not; its other ways stay.
+unfoldable pub put : ℕ → Bool → ℕ → ℕ
+put w on map = word 16 (λ v. cond (eqb w v) on (bit map v))
+
 -- Whether a map holds a way of `ways` or higher.
 unfoldable pub reaches : ℕ → ℕ → Bool
 reaches ways map = any 16 (λ w. bit map w && leb ways w)

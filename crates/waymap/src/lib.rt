@@ -4,7 +4,7 @@ ghost use mathlib.Core.Path.{_≡_};
 ghost use mathlib.Core.Bool.{not};
 ghost use Prim.Native.Nat.{ℕ};
 ghost use lib.Dec.{ltb, eqb};
-ghost use Rattle.waymap.specs.Bits.{bit, word, lowest, reaches};
+ghost use Rattle.waymap.specs.Bits.{bit, word, lowest, count, put, reaches};
 
 // Whether the map holds the way. No map holds way 16 or more.
 pub fn has(map: u16, way: usize) -> bool
@@ -51,4 +51,21 @@ pub fn lowest_way(map: u16) -> usize
     ensures { λ r. ⌜ r ≡ lowest 16 (bit map) ⌝ }
 {
     u16::trailing_zeros(map) as usize
+}
+
+// The map with the way made a member of it or not. No map has way 16 or more.
+pub fn set_way(map: u16, way: usize, on: bool) -> u16
+    ensures { λ r. ⌜ r ≡ put way on map ⌝ }
+{
+    if on {
+        return map | only(way);
+    }
+    map & !only(way)
+}
+
+// How many ways the map has.
+pub fn count_ways(map: u16) -> usize
+    ensures { λ r. ⌜ r ≡ count 16 (bit map) ⌝ }
+{
+    u16::count_ones(map) as usize
 }
