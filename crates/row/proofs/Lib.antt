@@ -1,0 +1,5 @@
+-- The laws that the crates above cite.
+pub mod RuleLaws
+pub mod TagLaws
+pub mod ReadLaws
+pub mod WorkLaws

@@ -1,0 +1,214 @@
+-- What the steps on a set give, by what their tests find.
+use mathlib.Core.Path.{_≡_, refl, sym, ap, ap₂, fun-ext, _∙_}
+use mathlib.Core.Bool.{Bool, true, false, cond, not, _&&_, xor, and-true, false≢true}
+use mathlib.Core.List.{List, [], _∷_}
+use Prim.Native.Nat.{ℕ, zero, suc, _-_, _^_, _≤_, _<_}
+use native.Mathlib.Nat.{lt-of-le-of-lt, lt-of-lt-of-le, lt-irrefl}
+use native.Mathlib.Omega.{arith}
+use lib.Dec.{eqb, ltb}
+use lib.Bits.{bitAnd, bitXor, and-le-l}
+use lib.ListN.{length, getD, set}
+use borrow.Author.Tests.{ne-eqb, ltb-true, ltb-false, lt-ltb, le-ltb}
+use Rattle.waymap.specs.Bits.{Bits, bit, word, any, lowest, count, put, reaches}
+use Rattle.waymap.proofs.Booleans.{cases, cleared}
+use Rattle.waymap.proofs.BitLaws.{bit-and, bit-xor, bit-not}
+use Rattle.waymap.proofs.WordLaws.{word-lt, bit-word, bit-word-in, from-bits, bit-high, high-none}
+use Rattle.waymap.proofs.WayLaws.{any-bits, any-lowest, any-ext, any-wider, none-at, lowest-ext, lowest-wider, lowest-none, lowest-found, count-ext, count-wider}
+use Rattle.waymap.proofs.MapLaws.{below-reach, none-empty}
+use Rattle.replacement.specs.Rule.{Rule, ruleOf}
+use Rattle.replacement.specs.Calls.{isWays, inLimits}
+use Rattle.row.specs.Row.{Row, Effect, ways, asRead, matches, isHit, hitWay, hitAt, vacant, filled, fillAt, evictAt, accessBy, access, flushAt, flush, moved, without, wiped, clean}
+use Rattle.row.specs.Answer.{answerOf}
+use Rattle.row.specs.Calls.{Result, rowOf, told, lookupOf}
+use Rattle.row.specs.Inside.{Usable, ChoiceOf, untagged, linesOf, missAt, SweptOf}
+use Rattle.row.specs.declared.Maps.{Maps}
+use Rattle.row.specs.declared.Lines.{Lines}
+use Rattle.row.specs.declared.Answer.{Answer}
+use Rattle.row.specs.declared.Answer.the-variants.{Hit, Fill, Evict, Pass, Flush, Absent, Policy}
+use Rattle.row.specs.declared.rules.Choice.{Choice}
+use Rattle.row.proofs.RuleLaws.{most-ways}
+
+-- ---- lookup
+
+-- a search among the valid ways of the hit map is the lookup
+pub search-is : (tags : List ℕ) (valid hit tag : ℕ)
+    → lowest (length tags) (λ (w : ℕ). bit (bitAnd hit valid) w && eqb (getD tags w 0) tag) ≡ hitWay (record { tags = tags; valid = valid; dirty = 0; word = 0 }) hit tag
+unfolding hitWay matches
+search-is tags valid hit tag = lowest-ext (length tags) (λ i h. ap (λ (t : Bool). t && eqb (getD tags i 0) tag) (bit-and hit valid i))
+
+-- it hits where it finds a way
+pub hit-below : (r : Row) (hit tag : ℕ) → hitWay r hit tag < ways r → isHit r hit tag ≡ true
+unfolding isHit hitWay
+hit-below r hit tag h = any-lowest (ways r) (matches r hit tag) ∙ lt-ltb (lowest (ways r) (matches r hit tag)) (ways r) h
+
+pub miss-above : (r : Row) (hit tag : ℕ) → ways r ≤ hitWay r hit tag → isHit r hit tag ≡ false
+unfolding isHit hitWay
+miss-above r hit tag h = any-lowest (ways r) (matches r hit tag) ∙ le-ltb (lowest (ways r) (matches r hit tag)) (ways r) h
+
+-- the answer of a lookup, of a number of ways within the limits
+module _ (tags : List ℕ) (valid hit tag : ℕ) (limits : isWays (length tags) ≡ true) (p : Maps) (read : p ≡ asRead (length tags) (record { hit = hit; fill = 0 })) where
+  abbrev sought : Row
+  sought = record { tags = tags; valid = valid; dirty = 0; word = 0 }
+
+  pub lookup-hit : {way : ℕ} → way ≡ hitWay sought (p .hit) tag → way < length tags → Hit way ≡ lookupOf tags valid hit tag
+  unfolding lookupOf
+  lookup-hit {way} e h = rw (limits, ← read, hit-below sought (p .hit) tag (rw (← e) h), ← e)
+
+  pub lookup-absent : {way : ℕ} → way ≡ hitWay sought (p .hit) tag → length tags ≤ way → Absent ≡ lookupOf tags valid hit tag
+  unfolding lookupOf
+  lookup-absent {way} e h = rw (limits, ← read, miss-above sought (p .hit) tag (rw (← e) h))
+
+-- ---- access
+
+module _ (rule tag : ℕ) (store : Bool) (tags : List ℕ) (l : Lines) where
+  abbrev row : Row
+  row = rowOf tags l
+
+  abbrev R : Rule
+  R = ruleOf rule (length tags)
+
+  pub serve-hit : (p : Maps) {way : ℕ} {k : Lines} → way ≡ hitWay row (p .hit) tag → way < length tags
+      → k ≡ linesOf (hitAt R (p .fill) store way (untagged l) .row)
+      → record { answer = answerOf (Hit way); row = rowOf tags k } ≡ told (access R p tag store row)
+  unfolding access accessBy hitAt
+  serve-hit p {way} {k} e h f =
+      let found : isHit row (p .hit) tag ≡ true = hit-below row (p .hit) tag (rw (← e) h) in
+      rw (found, f, ← e)
+
+  pub serve-pass : (p : Maps) {way : ℕ} → way ≡ hitWay row (p .hit) tag → length tags ≤ way → any (length tags) (bit (p .fill)) ≡ false
+      → record { answer = answerOf Pass; row = row } ≡ told (access R p tag store row)
+  unfolding access accessBy
+  serve-pass p e h f = rw (miss-above row (p .hit) tag (rw (← e) h), f)
+
+  pub serve-miss : (p : Maps) {way : ℕ} {q : Result} → way ≡ hitWay row (p .hit) tag → length tags ≤ way → any (length tags) (bit (p .fill)) ≡ true
+      → q ≡ told (missAt R (p .fill) tag store row) → q ≡ told (access R p tag store row)
+  unfolding access accessBy
+  serve-miss p e h f g =
+      g ∙ rw (miss-above row (p .hit) tag (rw (← e) h), f)
+      (cases (any (length tags) (vacant row (p .fill))) (λ t. rw t) (λ t. rw t))
+
+  -- the invalid ways of the fill map, as a map
+  module _ (fill : ℕ) (u : Usable (length tags) rule fill) (valid-lt : l .valid < 2 ^ 16) where
+    vacant-bit : (i : ℕ) → i < 16 → bit (bitAnd fill (2 ^ 16 - 1 - l .valid)) i ≡ vacant row fill i
+    unfolding vacant
+    vacant-bit i h =
+        bit-and fill (2 ^ 16 - 1 - l .valid) i
+        ∙ ap (λ (t : Bool). bit fill i && t) (bit-not 16 (l .valid) i valid-lt ∙ rw (lt-ltb i 16 h))
+
+    vacant-within : (i : ℕ) → length tags ≤ i → vacant row fill i ≡ false
+    unfolding vacant
+    vacant-within i h = rw (bit-high (length tags) fill i (below-reach (length tags) fill (u .small) (u .within)) h)
+
+    lowest-vacant : lowest 16 (bit (bitAnd fill (2 ^ 16 - 1 - l .valid))) ≡ lowest 16 (vacant row fill)
+    lowest-vacant = lowest-ext 16 vacant-bit
+
+    room : any 16 (vacant row fill) ≡ any (length tags) (vacant row fill)
+    room = any-wider (length tags) 16 (vacant row fill) (most-ways (length tags) rule (u .limits)) vacant-within
+
+    pub bring-fill : {way : ℕ} {k : Lines} → way ≡ lowest 16 (bit (bitAnd fill (2 ^ 16 - 1 - l .valid))) → way < length tags
+        → k ≡ linesOf (filled R fill 0 store way (l .word) (untagged l))
+        → record { answer = answerOf (Fill way); row = rowOf (set tags way tag) k } ≡ told (missAt R fill tag store row)
+    unfolding accessBy fillAt filled
+    bring-fill {way} {k} e h f = rw (free, f, same)
+      where
+        free : any (length tags) (vacant row fill) ≡ true
+        free =
+            sym room ∙ any-lowest 16 (vacant row fill)
+            ∙ lt-ltb (lowest 16 (vacant row fill)) 16 (rw (← lowest-vacant, ← e) (lt-of-lt-of-le h (most-ways (length tags) rule (u .limits))))
+
+        same : way ≡ lowest (length tags) (vacant row fill)
+        same = e ∙ lowest-vacant ∙ lowest-wider (length tags) 16 (vacant row fill) (most-ways (length tags) rule (u .limits)) free
+
+    pub bring-evict : {way : ℕ} {q : Result} → way ≡ lowest 16 (bit (bitAnd fill (2 ^ 16 - 1 - l .valid))) → length tags ≤ way
+        → q ≡ told (evictAt R fill tag store row) → q ≡ told (missAt R fill tag store row)
+    unfolding accessBy
+    bring-evict {way} e h f = f ∙ rw full
+      where
+        full : any (length tags) (vacant row fill) ≡ false
+        full =
+            cases (any (length tags) (vacant row fill))
+            (λ t. absurd (lt-irrefl way
+            (lt-of-lt-of-le
+            (rw (e ∙ lowest-vacant ∙ lowest-wider (length tags) 16 (vacant row fill) (most-ways (length tags) rule (u .limits)) t) (lowest-found (length tags) (vacant row fill) t .0))
+            h)))
+            (λ t. t)
+
+  pub evict-is : (fill : ℕ) (c : Choice) {dirty : Bool} {k : Lines} → ChoiceOf (length tags) rule fill (l .word) c → dirty ≡ bit (l .dirty) (c .way)
+      → k ≡ linesOf (filled R fill 0 store (c .way) (c .word) (untagged l))
+      → record { answer = answerOf (Evict (c .way) (getD tags (c .way) 0) dirty); row = rowOf (set tags (c .way) tag) k } ≡ told (evictAt R fill tag store row)
+  unfolding evictAt filled
+  evict-is fill c e d f = rw (f, d, ← (e .way-is), ← (e .word-is))
+
+-- ---- flush
+
+module _ (p : Maps) (tag : ℕ) (tags : List ℕ) (l : Lines) where
+  pub flush-hit : {way : ℕ} {dirty : Bool} {k : Lines} → way ≡ hitWay (rowOf tags l) (p .hit) tag → way < length tags → dirty ≡ bit (l .dirty) way
+      → k ≡ linesOf (flushAt true way (untagged l) .row)
+      → record { answer = answerOf (Flush way dirty); row = rowOf tags k } ≡ told (flush p tag (rowOf tags l))
+  unfolding flush flushAt
+  flush-hit e h d f = rw (hit-below (rowOf tags l) (p .hit) tag (rw (← e) h), f, d, ← e)
+
+  pub flush-absent : {way : ℕ} → way ≡ hitWay (rowOf tags l) (p .hit) tag → length tags ≤ way
+      → record { answer = answerOf Absent; row = rowOf tags l } ≡ told (flush p tag (rowOf tags l))
+  unfolding flush flushAt
+  flush-absent e h = rw (miss-above (rowOf tags l) (p .hit) tag (rw (← e) h))
+
+-- ---- a change of policy
+
+pub without-is : (gone map : ℕ) → gone < 2 ^ 16 → map < 2 ^ 16 → bitAnd map (2 ^ 16 - 1 - gone) ≡ without (bit gone) map
+unfolding without
+without-is gone map g h =
+    from-bits 16 (lt-of-le-of-lt (and-le-l map (2 ^ 16 - 1 - gone)) h)
+    (λ i k. bit-and map (2 ^ 16 - 1 - gone) i ∙ ap (λ (t : Bool). bit map i && t) (bit-not 16 gone i g ∙ rw (lt-ltb i 16 k)) ∙ cleared (bit gone i) (bit map i))
+
+pub moved-bits : (old new : Maps) → bit (bitXor (old .hit) (new .hit)) ≡ moved old new
+unfolding moved
+moved-bits old new = fun-ext (λ w. bit-xor (old .hit) (new .hit) w)
+
+-- ways beyond the number of ways do not move
+moved-within : (W : ℕ) (old new : Maps) → old .hit < 2 ^ W → new .hit < 2 ^ W → (i : ℕ) → W ≤ i → moved old new i ≡ false
+unfolding moved xor
+moved-within W old new h k i l = rw (bit-high W (old .hit) i h l, bit-high W (new .hit) i k l)
+
+pub sweep-is : (rule : ℕ) (old new : Maps) (tags : List ℕ) (l k : Lines) {ts : List ℕ} {a : Answer} → length tags ≤ 16
+    → old .hit < 2 ^ length tags → new .hit < 2 ^ length tags
+    → a ≡ Policy (count 16 (λ (w : ℕ). bit (bitXor (old .hit) (new .hit)) w && bit (l .valid) w)) (count 16 (λ (w : ℕ). bit (bitXor (old .hit) (new .hit)) w && bit (l .valid) w && bit (l .dirty) w))
+    → SweptOf (length tags) rule (bitXor (old .hit) (new .hit)) (old .fill) (new .fill) l k
+    → ts ≡ wiped (bit (bitXor (old .hit) (new .hit))) tags
+    → record { answer = answerOf a; row = rowOf ts k } ≡ told (clean (ruleOf rule (length tags)) old new (rowOf tags l))
+unfolding clean
+sweep-is rule old new tags l k {ts} {a} small h j e s t = λ i. record {
+  answer = answerOf (answers i);
+  row = record { tags = cleaned i; valid = valid-is i; dirty = dirty-is i; word = s .word-is i };
+}
+  where
+    gone : Bits
+    gone = moved old new
+
+    beyond : (f : Bits) (i : ℕ) → length tags ≤ i → (gone i && f i) ≡ false
+    beyond f i q = rw (moved-within (length tags) old new h j i q)
+
+    cleaned : ts ≡ wiped gone tags
+    cleaned = t ∙ ap (λ (f : Bits). wiped f tags) (moved-bits old new)
+
+    valid-is : k .valid ≡ without gone (l .valid)
+    valid-is = s .valid-is ∙ ap (λ (f : Bits). without f (l .valid)) (moved-bits old new)
+
+    dirty-is : k .dirty ≡ without gone (l .dirty)
+    dirty-is = s .dirty-is ∙ ap (λ (f : Bits). without f (l .dirty)) (moved-bits old new)
+
+    answers : a ≡ Policy (count (length tags) (λ (w : ℕ). gone w && bit (l .valid) w)) (count (length tags) (λ (w : ℕ). gone w && bit (l .valid) w && bit (l .dirty) w))
+    answers =
+        e ∙ ap (λ (f : Bits). Policy (count 16 (λ (w : ℕ). f w && bit (l .valid) w)) (count 16 (λ (w : ℕ). f w && bit (l .valid) w && bit (l .dirty) w))) (moved-bits old new)
+        ∙ ap₂ Policy
+        (count-wider (length tags) 16 (λ (w : ℕ). gone w && bit (l .valid) w) small (beyond (bit (l .valid))))
+        (count-wider (length tags) 16 (λ (w : ℕ). gone w && bit (l .valid) w && bit (l .dirty) w) small
+        (λ i q. rw (moved-within (length tags) old new h j i q)))
+
+-- ---- a fill map within the ways
+
+pub no-fill : (W fill : ℕ) → fill ≡ 0 → any W (bit fill) ≡ false
+no-fill W fill e = rw e (none-empty W)
+
+pub some-fill : (W rule fill : ℕ) → Usable W rule fill → (fill ≡ 0 → ⊥) → any W (bit fill) ≡ true
+some-fill W rule fill u n = any-bits W fill (below-reach W fill (u .small) (u .within)) ∙ ap not (ne-eqb fill 0 n)

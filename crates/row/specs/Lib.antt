@@ -1,0 +1,5 @@
+-- The rules on one set: document 01, "Steps".
+pub mod Answer
+pub mod Row
+pub mod Calls
+pub mod Inside

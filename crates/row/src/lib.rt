@@ -1,0 +1,123 @@
+// The work on one set: its tags as a lent slice, whose length is the number of ways, and its maps and replacement word by value.
+mod rules;
+mod tags;
+mod update;
+mod work;
+
+ghost use mathlib.Core.Path.{_≡_};
+ghost use Rattle.row.specs.Answer.{answerOf};
+ghost use Rattle.row.specs.Row.{asRead};
+ghost use Rattle.row.specs.Calls.{rowOf, result, told, lookupOf, accessOf, flushOf, cleanOf};
+
+// A domain's hit map and fill map.
+pub struct Maps {
+    pub hit: u16,
+    pub fill: u16,
+}
+
+// A set's valid map, dirty map and replacement word.
+pub struct Lines {
+    pub valid: u16,
+    pub dirty: u16,
+    pub word: u64,
+}
+
+// What a step answers.
+pub enum Answer {
+    Hit(usize),
+    Fill(usize),
+    Evict { way: usize, tag: u64, dirty: bool },
+    Pass,
+    Flush { way: usize, dirty: bool },
+    Absent,
+    // The valid lines that a change of policy dropped, and how many of them were dirty.
+    Policy { dropped: usize, dirty: usize },
+    // The number of the refusal.
+    Refused(usize),
+}
+
+// The answer, and what the set has beside its tags.
+pub struct Done {
+    pub answer: Answer,
+    pub lines: Lines,
+}
+
+// A policy as it is read: without ways of `ways` or more, and the fill map cut to the hit map.
+pub fn as_read(ways: usize, maps: Maps) -> Maps
+    ensures { λ r. ⌜ r ≡ asRead ways maps ⌝ }
+{
+    let hit = maps.hit & waymap::all(ways);
+    Maps {
+        hit,
+        fill: maps.fill & hit,
+    }
+}
+
+// The lowest way of the hit map that is valid with the tag.
+pub fn lookup(tags: &[u64], valid: u16, hit: u16, tag: u64) -> Answer
+    ensures { λ r. ⌜ answerOf r ≡ answerOf (lookupOf (now (tags .entry)) valid hit tag) ⌝ }
+{
+    let ways = tags.len();
+    if replacement::in_limits(ways, 0) {} else {
+        return Answer::Refused(1);
+    }
+    let read = as_read(ways, Maps { hit, fill: 0 });
+    let way = tags::hit_way(tags, valid, read.hit, tag);
+    if way < ways {
+        return Answer::Hit(way);
+    }
+    Answer::Absent
+}
+
+// A fetch, a load or a store.
+pub fn access(
+    tags: &mut [u64],
+    lines: Lines,
+    rule: usize,
+    maps: Maps,
+    tag: u64,
+    store: bool,
+) -> Done
+    ensures { λ r. ⌜ result r (now (tags .exit)) ≡ told (accessOf rule maps tag store (rowOf (now (tags .entry)) lines)) ⌝ }
+{
+    let ways = tags.len();
+    if replacement::in_limits(ways, rule) {} else {
+        return Done {
+            answer: Answer::Refused(1),
+            lines,
+        };
+    }
+    let read = as_read(ways, maps);
+    work::serve(tags, lines, rule, read, tag, store)
+}
+
+// A flush.
+pub fn flush(tags: &[u64], lines: Lines, maps: Maps, tag: u64) -> Done
+    ensures { λ r. ⌜ result r (now (tags .entry)) ≡ told (flushOf maps tag (rowOf (now (tags .entry)) lines)) ⌝ }
+{
+    let ways = tags.len();
+    if replacement::in_limits(ways, 0) {} else {
+        return Done {
+            answer: Answer::Refused(1),
+            lines,
+        };
+    }
+    let read = as_read(ways, maps);
+    work::drop_line(tags, lines, read, tag)
+}
+
+// What a change of policy does to the set.
+pub fn clean(tags: &mut [u64], lines: Lines, rule: usize, old: Maps, new: Maps) -> Done
+    ensures { λ r. ⌜ result r (now (tags .exit)) ≡ told (cleanOf rule old new (rowOf (now (tags .entry)) lines)) ⌝ }
+{
+    let ways = tags.len();
+    if replacement::in_limits(ways, rule) {} else {
+        return Done {
+            answer: Answer::Refused(1),
+            lines,
+        };
+    }
+    let was = as_read(ways, old);
+    let next = as_read(ways, new);
+    work::sweep(tags, lines, rule, was, next)
+}
