@@ -17,7 +17,7 @@ use Rattle.waymap.proofs.WayLaws.{any-bits, any-lowest, any-ext, any-wider, non
 use Rattle.waymap.proofs.MapLaws.{below-reach, none-empty}
 use Rattle.replacement.specs.Rule.{Rule, ruleOf}
 use Rattle.replacement.specs.Calls.{isWays, inLimits}
-use Rattle.row.specs.Row.{Row, Effect, ways, asRead, matches, isHit, hitWay, hitAt, vacant, filled, fillAt, evictAt, accessBy, access, flushAt, flush, moved, without, wiped, clean}
+use Rattle.row.specs.Row.{Row, Effect, ways, asRead, matches, isHit, hitWay, hitAt, vacant, filled, fillAt, evictAt, accessBy, access, flushAt, flush, moved, without, wiped, dropped, droppedDirty, cleaned, clean}
 use Rattle.row.specs.Answer.{answerOf}
 use Rattle.row.specs.Calls.{Result, rowOf, told, lookupOf}
 use Rattle.row.specs.Inside.{Usable, ChoiceOf, untagged, linesOf, missAt, SweptOf}
@@ -176,10 +176,10 @@ pub sweep-is : (rule : ℕ) (old new : Maps) (tags : List ℕ) (l k : Lines) {ts
     → SweptOf (length tags) rule (bitXor (old .hit) (new .hit)) (old .fill) (new .fill) l k
     → ts ≡ wiped (bit (bitXor (old .hit) (new .hit))) tags
     → record { answer = answerOf a; row = rowOf ts k } ≡ told (clean (ruleOf rule (length tags)) old new (rowOf tags l))
-unfolding clean
+unfolding clean cleaned dropped droppedDirty
 sweep-is rule old new tags l k {ts} {a} small h j e s t = λ i. record {
   answer = answerOf (answers i);
-  row = record { tags = cleaned i; valid = valid-is i; dirty = dirty-is i; word = s .word-is i };
+  row = record { tags = tags-is i; valid = valid-is i; dirty = dirty-is i; word = s .word-is i };
 }
   where
     gone : Bits
@@ -188,8 +188,8 @@ sweep-is rule old new tags l k {ts} {a} small h j e s t = λ i. record {
     beyond : (f : Bits) (i : ℕ) → length tags ≤ i → (gone i && f i) ≡ false
     beyond f i q = rw (moved-within (length tags) old new h j i q)
 
-    cleaned : ts ≡ wiped gone tags
-    cleaned = t ∙ ap (λ (f : Bits). wiped f tags) (moved-bits old new)
+    tags-is : ts ≡ wiped gone tags
+    tags-is = t ∙ ap (λ (f : Bits). wiped f tags) (moved-bits old new)
 
     valid-is : k .valid ≡ without gone (l .valid)
     valid-is = s .valid-is ∙ ap (λ (f : Bits). without f (l .valid)) (moved-bits old new)

@@ -121,17 +121,20 @@ unfoldable pub wiped : Bits → List ℕ → List ℕ
 wiped gone [] = []
 wiped gone (t ∷ ts) = cond (gone 0) 0 t ∷ wiped (λ w. gone (suc w)) ts
 
--- The set after a change of policy; the rule says what becomes of the replacement bits. "The answer is the number of valid lines dropped
--- and how many of them were dirty".
+-- "the number of valid lines dropped and how many of them were dirty"
+unfoldable pub dropped : Maps → Maps → Row → ℕ
+dropped old new r = count (ways r) (λ w. moved old new w && bit (r .valid) w)
+
+unfoldable pub droppedDirty : Maps → Maps → Row → ℕ
+droppedDirty old new r = count (ways r) (λ w. moved old new w && bit (r .valid) w && bit (r .dirty) w)
+
+-- The set after a change of policy; the rule says what becomes of the replacement bits.
+unfoldable pub cleaned : Rule → Maps → Maps → Row → Row
+cleaned R old new r = record {
+  tags = wiped (moved old new) (r .tags);
+  valid = without (moved old new) (r .valid);
+  dirty = without (moved old new) (r .dirty);
+  word = R .reset (old .fill) (new .fill) (r .word) }
+
 unfoldable pub clean : Rule → Maps → Maps → Row → Effect
-clean R old new r = record {
-  answer =
-      Policy (count (ways r) (λ w. moved old new w && bit (r .valid) w))
-      (count (ways r) (λ w. moved old new w && bit (r .valid) w && bit (r .dirty) w));
-  row = record {
-    tags = wiped (moved old new) (r .tags);
-    valid = without (moved old new) (r .valid);
-    dirty = without (moved old new) (r .dirty);
-    word = R .reset (old .fill) (new .fill) (r .word);
-  };
-}
+clean R old new r = record { answer = Policy (dropped old new r) (droppedDirty old new r); row = cleaned R old new r }
