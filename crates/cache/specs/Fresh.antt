@@ -1,0 +1,36 @@
+-- A fresh cache: "all zero, except that under NRU the low W bits of each replacement word are one. All policies and counts are zero."
+use mathlib.Core.Bool.{cond}
+use Prim.Native.Nat.{ℕ, _*_}
+use lib.ListN.{replicate}
+use Rattle.replacement.specs.Rule.{Rule, ruleOf}
+use Rattle.cache.specs.Geometry.{within}
+use Rattle.cache.specs.Tables.{Tables, lengths, sized}
+use Rattle.cache.specs.Domains.{maxDomains, noDomain}
+use Rattle.cache.specs.Step.{State}
+use Rattle.cache.specs.declared.Geometry.{Geometry}
+use Rattle.cache.specs.declared.Domains.{Domains}
+
+unfoldable pub freshTables : Geometry → Tables
+freshTables g = record {
+  tags = replicate (g .sets * g .ways) 0;
+  valid = replicate (g .sets) 0;
+  dirty = replicate (g .sets) 0;
+  words = replicate (g .sets) (ruleOf (g .rule) (g .ways) .fresh) }
+
+unfoldable pub freshDomains : Domains
+freshDomains = record { records = replicate maxDomains noDomain }
+
+unfoldable pub fresh : Geometry → State
+fresh g = record { tables = freshTables g; domains = freshDomains }
+
+-- What the call that makes tables fresh gives: 0 and fresh tables; or "1: geometry outside the limits", "2: a table whose length is not
+-- exactly the one above", and the tables as they were.
+pub record Made : Type 0 where
+  pub number : ℕ
+  pub tables : Tables
+
+unfoldable pub freshOf : Geometry → Tables → Made
+freshOf g t =
+    cond (within g)
+    (cond (sized g (lengths t)) (record { number = 0; tables = freshTables g }) (record { number = 2; tables = t }))
+    (record { number = 1; tables = t })

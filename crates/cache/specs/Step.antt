@@ -1,0 +1,98 @@
+-- Document 01, "Steps": what a step answers, and the tables, policies and counts after it.
+use mathlib.Core.Bool.{Bool, cond}
+use mathlib.Core.List.{List}
+use Prim.Native.Nat.{ℕ}
+use lib.Dec.{eqb}
+use Rattle.replacement.specs.Rule.{Rule, ruleOf}
+use Rattle.row.specs.Answer.{answerOf}
+use Rattle.row.specs.Row as Row
+use Rattle.row.specs.Row.{Row, Effect, asRead}
+use Rattle.row.specs.declared.Maps.{Maps}
+use Rattle.row.specs.declared.Answer.{Answer}
+use Rattle.row.specs.declared.Answer.the-variants.{Policy, Refused}
+use Rattle.cache.specs.Geometry.{setOf, tagOf}
+use Rattle.cache.specs.Tables.{Tables, lengths, rowAt, putRow, eachSet, total}
+use Rattle.cache.specs.Domains.{noCounts, domainOf, putDomain, policies, counted}
+use Rattle.cache.specs.Refusal.{Kind, access, flush, policy, unknown, kindOf, newMaps, refusal}
+use Rattle.cache.specs.declared.Geometry.{Geometry}
+use Rattle.cache.specs.declared.Counts.{Counts}
+use Rattle.cache.specs.declared.Domain.{Domain}
+use Rattle.cache.specs.declared.Domains.{Domains}
+use Rattle.cache.specs.declared.Stepped.{Stepped}
+
+-- What a step finds and leaves.
+pub record State : Type 0 where
+  pub tables : Tables
+  pub domains : Domains
+
+-- Its answer, as document 01 words it, and what it leaves.
+pub record Outcome : Type 0 where
+  pub answer : List ℕ
+  pub state : State
+
+abbrev pub answers : Answer → State → Outcome
+answers a s = record { answer = answerOf a; state = s }
+
+-- ---- Access and flush: the work on the row of one set, and the counts
+
+-- The state after a domain's step on one set.
+unfoldable pub onSet : Geometry → ℕ → ℕ → Effect → State → Outcome
+onSet g d set e s = answers (e .answer) (record {
+  tables = putRow (g .ways) set (e .row) (s .tables);
+  domains =
+    putDomain d
+    (record { hit = domainOf (s .domains) d .hit; fill = domainOf (s .domains) d .fill; counts = counted (e .answer) (domainOf (s .domains) d .counts) })
+    (s .domains) })
+
+-- What the step does to the row of its address's set.
+unfoldable pub rowEffect : Geometry → (Maps → ℕ → Row → Effect) → ℕ → ℕ → State → Effect
+rowEffect g work d address s =
+    work (policies (g .ways) (s .domains) d) (tagOf g address) (rowAt (g .ways) (setOf g address) (s .tables))
+
+unfoldable pub useLine : Geometry → (Maps → ℕ → Row → Effect) → ℕ → ℕ → State → Outcome
+useLine g work d address s = onSet g d (setOf g address) (rowEffect g work d address s) s
+
+-- ---- Policy
+
+-- "both maps are stored." "Two zero maps remove the domain and zero its counts."
+unfoldable pub newDomain : ℕ → Domain → Domain
+newDomain arg x = record { hit = newMaps arg .hit; fill = newMaps arg .fill; counts = cond (eqb arg 0) noCounts (x .counts) }
+
+-- "Ways in exactly one of the old and new hit maps are cleaned in every set", the rule resets every replacement word, and the answer is
+-- what was dropped in all.
+unfoldable pub changePolicy : Geometry → ℕ → ℕ → State → Outcome
+changePolicy g d arg s =
+    let W = g .ways in
+    let old = policies W (s .domains) d in
+    let new = asRead W (newMaps arg) in
+    answers
+    (Policy (total W (g .sets) (Row.dropped old new) (s .tables)) (total W (g .sets) (Row.droppedDirty old new) (s .tables)))
+    (record {
+      tables = eachSet W (g .sets) (Row.cleaned (ruleOf (g .rule) W) old new) (s .tables);
+      domains = putDomain d (newDomain arg (domainOf (s .domains) d)) (s .domains) })
+
+-- ---- A step
+
+unfoldable pub stepBy : Kind → Geometry → ℕ → ℕ → State → Outcome
+stepBy (access store) g d arg s = useLine g (λ p tag. Row.access (ruleOf (g .rule) (g .ways)) p tag store) d arg s
+stepBy flush g d arg s = useLine g Row.flush d arg s
+stepBy policy g d arg s = changePolicy g d arg s
+stepBy unknown g d arg s = answers (Refused 4) s
+
+-- "The answer is the number alone and nothing else moves."
+unfoldable pub decided : ℕ → Outcome → State → Outcome
+decided n done s = cond (eqb n 0) done (answers (Refused n) s)
+
+-- A step of kind and argument by a domain, of any numbers, on tables, policies and counts of any content.
+unfoldable pub step : Geometry → ℕ → ℕ → ℕ → State → Outcome
+step g d kind arg s =
+    decided
+    (refusal g (lengths (s .tables)) (policies (g .ways) (s .domains)) (domainOf (s .domains) d .counts) d kind arg)
+    (stepBy (kindOf kind) g d arg s) s
+
+-- The same of the four lent tables and the domains, as the code has them.
+abbrev pub tablesOf : List ℕ → List ℕ → List ℕ → List ℕ → Tables
+tablesOf tags valid dirty words = record { tags = tags; valid = valid; dirty = dirty; words = words }
+
+abbrev pub outcome : Stepped → Tables → Outcome
+outcome r t = record { answer = answerOf (r .answer); state = record { tables = t; domains = r .domains } }
