@@ -50,14 +50,16 @@ counted (Evict w tag dirty) c = record {
   misses = c .misses + 1;
   evicted = c .evicted + 1;
   written = c .written + digit dirty;
-  flushed = c .flushed }
+  flushed = c .flushed;
+}
 counted Pass c = record { hits = c .hits; misses = c .misses + 1; evicted = c .evicted; written = c .written; flushed = c .flushed }
 counted (Flush w dirty) c = record {
   hits = c .hits;
   misses = c .misses;
   evicted = c .evicted;
   written = c .written + digit dirty;
-  flushed = c .flushed + 1 }
+  flushed = c .flushed + 1;
+}
 counted Absent c = c
 counted (Policy dropped dirty) c = c
 counted (Refused n) c = c

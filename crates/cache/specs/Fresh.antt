@@ -15,7 +15,8 @@ freshTables g = record {
   tags = replicate (g .sets * g .ways) 0;
   valid = replicate (g .sets) 0;
   dirty = replicate (g .sets) 0;
-  words = replicate (g .sets) (ruleOf (g .rule) (g .ways) .fresh) }
+  words = replicate (g .sets) (ruleOf (g .rule) (g .ways) .fresh);
+}
 
 unfoldable pub freshDomains : Domains
 freshDomains = record { records = replicate maxDomains noDomain }

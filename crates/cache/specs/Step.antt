@@ -40,9 +40,10 @@ unfoldable pub onSet : Geometry → ℕ → ℕ → Effect → State → Outcome
 onSet g d set e s = answers (e .answer) (record {
   tables = putRow (g .ways) set (e .row) (s .tables);
   domains =
-    putDomain d
-    (record { hit = domainOf (s .domains) d .hit; fill = domainOf (s .domains) d .fill; counts = counted (e .answer) (domainOf (s .domains) d .counts) })
-    (s .domains) })
+      putDomain d
+      (record { hit = domainOf (s .domains) d .hit; fill = domainOf (s .domains) d .fill; counts = counted (e .answer) (domainOf (s .domains) d .counts) })
+      (s .domains);
+})
 
 -- What the step does to the row of its address's set.
 unfoldable pub rowEffect : Geometry → (Maps → ℕ → Row → Effect) → ℕ → ℕ → State → Effect
@@ -69,7 +70,8 @@ changePolicy g d arg s =
     (Policy (total W (g .sets) (Row.dropped old new) (s .tables)) (total W (g .sets) (Row.droppedDirty old new) (s .tables)))
     (record {
       tables = eachSet W (g .sets) (Row.cleaned (ruleOf (g .rule) W) old new) (s .tables);
-      domains = putDomain d (newDomain arg (domainOf (s .domains) d)) (s .domains) })
+      domains = putDomain d (newDomain arg (domainOf (s .domains) d)) (s .domains);
+    })
 
 -- ---- A step
 

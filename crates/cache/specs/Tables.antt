@@ -35,7 +35,8 @@ rowAt W s t = record {
   tags = take W (drop (s * W) (t .tags));
   valid = getD (t .valid) s 0;
   dirty = getD (t .dirty) s 0;
-  word = getD (t .words) s 0 }
+  word = getD (t .words) s 0;
+}
 
 -- The tables with another row for set s.
 unfoldable pub putRow : ℕ → ℕ → Row → Tables → Tables
@@ -43,7 +44,8 @@ putRow W s r t = record {
   tags = take (s * W) (t .tags) ++ (r .tags ++ drop W (drop (s * W) (t .tags)));
   valid = set (t .valid) s (r .valid);
   dirty = set (t .dirty) s (r .dirty);
-  words = set (t .words) s (r .word) }
+  words = set (t .words) s (r .word);
+}
 
 -- The tables with another row for each of the first n sets, made of the row that was there.
 unfoldable pub eachSet : ℕ → ℕ → (Row → Row) → Tables → Tables

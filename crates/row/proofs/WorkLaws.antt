@@ -18,8 +18,7 @@ use Rattle.waymap.proofs.MapLaws.{below-reach, none-empty}
 use Rattle.replacement.specs.Rule.{Rule, ruleOf}
 use Rattle.replacement.specs.Calls.{isWays, inLimits}
 use Rattle.row.specs.Row.{Row, Effect, ways, asRead, matches, isHit, hitWay, hitAt, vacant, filled, fillAt, evictAt, accessBy, access, flushAt, flush, moved, without, wiped, dropped, droppedDirty, cleaned, clean}
-use Rattle.row.specs.Answer.{answerOf}
-use Rattle.row.specs.Calls.{Result, rowOf, told, lookupOf}
+use Rattle.row.specs.Calls.{rowOf, lookupOf}
 use Rattle.row.specs.Inside.{Usable, ChoiceOf, untagged, linesOf, missAt, SweptOf}
 use Rattle.row.specs.declared.Maps.{Maps}
 use Rattle.row.specs.declared.Lines.{Lines}
@@ -69,19 +68,19 @@ module _ (rule tag : ℕ) (store : Bool) (tags : List ℕ) (l : Lines) where
 
   pub serve-hit : (p : Maps) {way : ℕ} {k : Lines} → way ≡ hitWay row (p .hit) tag → way < length tags
       → k ≡ linesOf (hitAt R (p .fill) store way (untagged l) .row)
-      → record { answer = answerOf (Hit way); row = rowOf tags k } ≡ told (access R p tag store row)
+      → record { answer = Hit way; row = rowOf tags k } ≡ access R p tag store row
   unfolding access accessBy hitAt
   serve-hit p {way} {k} e h f =
       let found : isHit row (p .hit) tag ≡ true = hit-below row (p .hit) tag (rw (← e) h) in
       rw (found, f, ← e)
 
   pub serve-pass : (p : Maps) {way : ℕ} → way ≡ hitWay row (p .hit) tag → length tags ≤ way → any (length tags) (bit (p .fill)) ≡ false
-      → record { answer = answerOf Pass; row = row } ≡ told (access R p tag store row)
+      → record { answer = Pass; row = row } ≡ access R p tag store row
   unfolding access accessBy
   serve-pass p e h f = rw (miss-above row (p .hit) tag (rw (← e) h), f)
 
-  pub serve-miss : (p : Maps) {way : ℕ} {q : Result} → way ≡ hitWay row (p .hit) tag → length tags ≤ way → any (length tags) (bit (p .fill)) ≡ true
-      → q ≡ told (missAt R (p .fill) tag store row) → q ≡ told (access R p tag store row)
+  pub serve-miss : (p : Maps) {way : ℕ} {q : Effect} → way ≡ hitWay row (p .hit) tag → length tags ≤ way → any (length tags) (bit (p .fill)) ≡ true
+      → q ≡ missAt R (p .fill) tag store row → q ≡ access R p tag store row
   unfolding access accessBy
   serve-miss p e h f g =
       g ∙ rw (miss-above row (p .hit) tag (rw (← e) h), f)
@@ -107,7 +106,7 @@ module _ (rule tag : ℕ) (store : Bool) (tags : List ℕ) (l : Lines) where
 
     pub bring-fill : {way : ℕ} {k : Lines} → way ≡ lowest 16 (bit (bitAnd fill (2 ^ 16 - 1 - l .valid))) → way < length tags
         → k ≡ linesOf (filled R fill 0 store way (l .word) (untagged l))
-        → record { answer = answerOf (Fill way); row = rowOf (set tags way tag) k } ≡ told (missAt R fill tag store row)
+        → record { answer = Fill way; row = rowOf (set tags way tag) k } ≡ missAt R fill tag store row
     unfolding accessBy fillAt filled
     bring-fill {way} {k} e h f = rw (free, f, same)
       where
@@ -119,8 +118,8 @@ module _ (rule tag : ℕ) (store : Bool) (tags : List ℕ) (l : Lines) where
         same : way ≡ lowest (length tags) (vacant row fill)
         same = e ∙ lowest-vacant ∙ lowest-wider (length tags) 16 (vacant row fill) (most-ways (length tags) rule (u .limits)) free
 
-    pub bring-evict : {way : ℕ} {q : Result} → way ≡ lowest 16 (bit (bitAnd fill (2 ^ 16 - 1 - l .valid))) → length tags ≤ way
-        → q ≡ told (evictAt R fill tag store row) → q ≡ told (missAt R fill tag store row)
+    pub bring-evict : {way : ℕ} {q : Effect} → way ≡ lowest 16 (bit (bitAnd fill (2 ^ 16 - 1 - l .valid))) → length tags ≤ way
+        → q ≡ evictAt R fill tag store row → q ≡ missAt R fill tag store row
     unfolding accessBy
     bring-evict {way} e h f = f ∙ rw full
       where
@@ -135,7 +134,7 @@ module _ (rule tag : ℕ) (store : Bool) (tags : List ℕ) (l : Lines) where
 
   pub evict-is : (fill : ℕ) (c : Choice) {dirty : Bool} {k : Lines} → ChoiceOf (length tags) rule fill (l .word) c → dirty ≡ bit (l .dirty) (c .way)
       → k ≡ linesOf (filled R fill 0 store (c .way) (c .word) (untagged l))
-      → record { answer = answerOf (Evict (c .way) (getD tags (c .way) 0) dirty); row = rowOf (set tags (c .way) tag) k } ≡ told (evictAt R fill tag store row)
+      → record { answer = Evict (c .way) (getD tags (c .way) 0) dirty; row = rowOf (set tags (c .way) tag) k } ≡ evictAt R fill tag store row
   unfolding evictAt filled
   evict-is fill c e d f = rw (f, d, ← (e .way-is), ← (e .word-is))
 
@@ -144,12 +143,12 @@ module _ (rule tag : ℕ) (store : Bool) (tags : List ℕ) (l : Lines) where
 module _ (p : Maps) (tag : ℕ) (tags : List ℕ) (l : Lines) where
   pub flush-hit : {way : ℕ} {dirty : Bool} {k : Lines} → way ≡ hitWay (rowOf tags l) (p .hit) tag → way < length tags → dirty ≡ bit (l .dirty) way
       → k ≡ linesOf (flushAt true way (untagged l) .row)
-      → record { answer = answerOf (Flush way dirty); row = rowOf tags k } ≡ told (flush p tag (rowOf tags l))
+      → record { answer = Flush way dirty; row = rowOf tags k } ≡ flush p tag (rowOf tags l)
   unfolding flush flushAt
   flush-hit e h d f = rw (hit-below (rowOf tags l) (p .hit) tag (rw (← e) h), f, d, ← e)
 
   pub flush-absent : {way : ℕ} → way ≡ hitWay (rowOf tags l) (p .hit) tag → length tags ≤ way
-      → record { answer = answerOf Absent; row = rowOf tags l } ≡ told (flush p tag (rowOf tags l))
+      → record { answer = Absent; row = rowOf tags l } ≡ flush p tag (rowOf tags l)
   unfolding flush flushAt
   flush-absent e h = rw (miss-above (rowOf tags l) (p .hit) tag (rw (← e) h))
 
@@ -175,10 +174,10 @@ pub sweep-is : (rule : ℕ) (old new : Maps) (tags : List ℕ) (l k : Lines) {ts
     → a ≡ Policy (count 16 (λ (w : ℕ). bit (bitXor (old .hit) (new .hit)) w && bit (l .valid) w)) (count 16 (λ (w : ℕ). bit (bitXor (old .hit) (new .hit)) w && bit (l .valid) w && bit (l .dirty) w))
     → SweptOf (length tags) rule (bitXor (old .hit) (new .hit)) (old .fill) (new .fill) l k
     → ts ≡ wiped (bit (bitXor (old .hit) (new .hit))) tags
-    → record { answer = answerOf a; row = rowOf ts k } ≡ told (clean (ruleOf rule (length tags)) old new (rowOf tags l))
+    → record { answer = a; row = rowOf ts k } ≡ clean (ruleOf rule (length tags)) old new (rowOf tags l)
 unfolding clean cleaned dropped droppedDirty
 sweep-is rule old new tags l k {ts} {a} small h j e s t = λ i. record {
-  answer = answerOf (answers i);
+  answer = answers i;
   row = record { tags = tags-is i; valid = valid-is i; dirty = dirty-is i; word = s .word-is i };
 }
   where

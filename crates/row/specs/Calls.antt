@@ -5,7 +5,6 @@ use mathlib.Core.List.{List}
 use Prim.Native.Nat.{ℕ}
 use Rattle.replacement.specs.Rule.{Rule, ruleOf}
 use Rattle.replacement.specs.Calls.{isWays, inLimits}
-use Rattle.row.specs.Answer.{answerOf}
 use Rattle.row.specs.Row.{Row, Effect, ways, asRead, isHit, hitWay, access, flush, clean}
 use Rattle.row.specs.declared.Maps.{Maps}
 use Rattle.row.specs.declared.Lines.{Lines}
@@ -17,16 +16,9 @@ use Rattle.row.specs.declared.Answer.the-variants.{Hit, Absent, Refused}
 abbrev pub rowOf : List ℕ → Lines → Row
 rowOf tags l = record { tags = tags; valid = l .valid; dirty = l .dirty; word = l .word }
 
--- What a call gives: its answer, as document 01 numbers it, and the row.
-pub record Result : Type 0 where
-  pub answer : List ℕ
-  pub row : Row
-
-abbrev pub told : Effect → Result
-told e = record { answer = answerOf (e .answer); row = e .row }
-
-abbrev pub result : Done → List ℕ → Result
-result d tags = record { answer = answerOf (d .answer); row = rowOf tags (d .lines) }
+-- What a call gives, as an effect on the row.
+abbrev pub result : Done → List ℕ → Effect
+result d tags = record { answer = d .answer; row = rowOf tags (d .lines) }
 
 abbrev pub refused : ℕ → Row → Effect
 refused n r = record { answer = Refused n; row = r }

@@ -134,7 +134,8 @@ cleaned R old new r = record {
   tags = wiped (moved old new) (r .tags);
   valid = without (moved old new) (r .valid);
   dirty = without (moved old new) (r .dirty);
-  word = R .reset (old .fill) (new .fill) (r .word) }
+  word = R .reset (old .fill) (new .fill) (r .word);
+}
 
 unfoldable pub clean : Rule → Maps → Maps → Row → Effect
 clean R old new r = record { answer = Policy (dropped old new r) (droppedDirty old new r); row = cleaned R old new r }

@@ -5,9 +5,8 @@ mod update;
 mod work;
 
 ghost use mathlib.Core.Path.{_≡_};
-ghost use Rattle.row.specs.Answer.{answerOf};
 ghost use Rattle.row.specs.Row.{asRead};
-ghost use Rattle.row.specs.Calls.{rowOf, result, told, lookupOf, accessOf, flushOf, cleanOf};
+ghost use Rattle.row.specs.Calls.{rowOf, result, lookupOf, accessOf, flushOf, cleanOf};
 
 // A domain's hit map and fill map.
 pub struct Maps {
@@ -55,7 +54,7 @@ pub fn as_read(ways: usize, maps: Maps) -> Maps
 
 // The lowest way of the hit map that is valid with the tag.
 pub fn lookup(tags: &[u64], valid: u16, hit: u16, tag: u64) -> Answer
-    ensures { λ r. ⌜ answerOf r ≡ answerOf (lookupOf (now (tags .entry)) valid hit tag) ⌝ }
+    ensures { λ r. ⌜ r ≡ lookupOf (now (tags .entry)) valid hit tag ⌝ }
 {
     let ways = tags.len();
     if replacement::in_limits(ways, 0) {} else {
@@ -78,7 +77,7 @@ pub fn access(
     tag: u64,
     store: bool,
 ) -> Done
-    ensures { λ r. ⌜ result r (now (tags .exit)) ≡ told (accessOf rule maps tag store (rowOf (now (tags .entry)) lines)) ⌝ }
+    ensures { λ r. ⌜ result r (now (tags .exit)) ≡ accessOf rule maps tag store (rowOf (now (tags .entry)) lines) ⌝ }
 {
     let ways = tags.len();
     if replacement::in_limits(ways, rule) {} else {
@@ -93,7 +92,7 @@ pub fn access(
 
 // A flush.
 pub fn flush(tags: &[u64], lines: Lines, maps: Maps, tag: u64) -> Done
-    ensures { λ r. ⌜ result r (now (tags .entry)) ≡ told (flushOf maps tag (rowOf (now (tags .entry)) lines)) ⌝ }
+    ensures { λ r. ⌜ result r (now (tags .entry)) ≡ flushOf maps tag (rowOf (now (tags .entry)) lines) ⌝ }
 {
     let ways = tags.len();
     if replacement::in_limits(ways, 0) {} else {
@@ -108,7 +107,7 @@ pub fn flush(tags: &[u64], lines: Lines, maps: Maps, tag: u64) -> Done
 
 // What a change of policy does to the set.
 pub fn clean(tags: &mut [u64], lines: Lines, rule: usize, old: Maps, new: Maps) -> Done
-    ensures { λ r. ⌜ result r (now (tags .exit)) ≡ told (cleanOf rule old new (rowOf (now (tags .entry)) lines)) ⌝ }
+    ensures { λ r. ⌜ result r (now (tags .exit)) ≡ cleanOf rule old new (rowOf (now (tags .entry)) lines) ⌝ }
 {
     let ways = tags.len();
     if replacement::in_limits(ways, rule) {} else {

@@ -12,14 +12,14 @@ ghost use lib.ListN.{length};
 ghost use Rattle.waymap.specs.Bits.{bit, any};
 ghost use Rattle.replacement.specs.Rule.{ruleOf};
 ghost use Rattle.row.specs.Row.{evictAt, access, flush, clean};
-ghost use Rattle.row.specs.Calls.{rowOf, result, told};
+ghost use Rattle.row.specs.Calls.{rowOf, result};
 ghost use Rattle.row.specs.Inside.{Usable, missAt};
 
 // The victim is evicted.
 fn evict(tags: &mut [u64], lines: Lines, rule: usize, fill: u16, tag: u64, store: bool) -> Done
     requires { ⌜ Usable (length (now tags)) rule fill ⌝ }
     requires { ⌜ any (length (now tags)) (bit fill) ≡ true ⌝ }
-    ensures { λ r. ⌜ result r (now (tags .exit)) ≡ told (evictAt (ruleOf rule (length (now (tags .entry)))) fill tag store (rowOf (now (tags .entry)) lines)) ⌝ }
+    ensures { λ r. ⌜ result r (now (tags .exit)) ≡ evictAt (ruleOf rule (length (now (tags .entry)))) fill tag store (rowOf (now (tags .entry)) lines) ⌝ }
 {
     let ways = tags.len();
     let choice = rules::chosen(ways, rule, lines.word, fill);
@@ -41,7 +41,7 @@ fn evict(tags: &mut [u64], lines: Lines, rule: usize, fill: u16, tag: u64, store
 fn bring(tags: &mut [u64], lines: Lines, rule: usize, fill: u16, tag: u64, store: bool) -> Done
     requires { ⌜ Usable (length (now tags)) rule fill ⌝ }
     requires { ⌜ any (length (now tags)) (bit fill) ≡ true ⌝ }
-    ensures { λ r. ⌜ result r (now (tags .exit)) ≡ told (missAt (ruleOf rule (length (now (tags .entry)))) fill tag store (rowOf (now (tags .entry)) lines)) ⌝ }
+    ensures { λ r. ⌜ result r (now (tags .exit)) ≡ missAt (ruleOf rule (length (now (tags .entry)))) fill tag store (rowOf (now (tags .entry)) lines) ⌝ }
 {
     let ways = tags.len();
     let way = waymap::lowest_way(fill & !lines.valid);
@@ -58,7 +58,7 @@ fn bring(tags: &mut [u64], lines: Lines, rule: usize, fill: u16, tag: u64, store
 // An access.
 pub fn serve(tags: &mut [u64], lines: Lines, rule: usize, maps: Maps, tag: u64, store: bool) -> Done
     requires { ⌜ Usable (length (now tags)) rule (maps .fill) ⌝ }
-    ensures { λ r. ⌜ result r (now (tags .exit)) ≡ told (access (ruleOf rule (length (now (tags .entry)))) maps tag store (rowOf (now (tags .entry)) lines)) ⌝ }
+    ensures { λ r. ⌜ result r (now (tags .exit)) ≡ access (ruleOf rule (length (now (tags .entry)))) maps tag store (rowOf (now (tags .entry)) lines) ⌝ }
 {
     let ways = tags.len();
     let fill = maps.fill;
@@ -80,7 +80,7 @@ pub fn serve(tags: &mut [u64], lines: Lines, rule: usize, maps: Maps, tag: u64, 
 
 // A flush.
 pub fn drop_line(tags: &[u64], lines: Lines, maps: Maps, tag: u64) -> Done
-    ensures { λ r. ⌜ result r (now (tags .entry)) ≡ told (flush maps tag (rowOf (now (tags .entry)) lines)) ⌝ }
+    ensures { λ r. ⌜ result r (now (tags .entry)) ≡ flush maps tag (rowOf (now (tags .entry)) lines) ⌝ }
 {
     let way = tags::hit_way(tags, lines.valid, maps.hit, tag);
     if way < tags.len() {
@@ -102,7 +102,7 @@ pub fn sweep(tags: &mut [u64], lines: Lines, rule: usize, old: Maps, new: Maps) 
     requires { ⌜ Usable (length (now tags)) rule (new .fill) ⌝ }
     requires { ⌜ Usable (length (now tags)) rule (old .hit) ⌝ }
     requires { ⌜ Usable (length (now tags)) rule (new .hit) ⌝ }
-    ensures { λ r. ⌜ result r (now (tags .exit)) ≡ told (clean (ruleOf rule (length (now (tags .entry)))) old new (rowOf (now (tags .entry)) lines)) ⌝ }
+    ensures { λ r. ⌜ result r (now (tags .exit)) ≡ clean (ruleOf rule (length (now (tags .entry)))) old new (rowOf (now (tags .entry)) lines) ⌝ }
 {
     let ways = tags.len();
     let gone = old.hit ^ new.hit;

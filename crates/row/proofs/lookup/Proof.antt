@@ -2,7 +2,6 @@
 use borrow.Author.Needs.{needs}
 use mathlib.Core.Path.{_≡_, sym, ap, _∙_}
 use lib.ListN.{length}
-use Rattle.row.specs.Answer.{answerOf}
 use Rattle.row.specs.Calls.{lookupOf}
 use Rattle.row.proofs.ReadLaws.{length-limits}
 use Rattle.row.proofs.WorkLaws.{lookup-hit, lookup-absent}
@@ -25,16 +24,14 @@ hit-way-requires c κs = search needs
 returns-2 : tie.Need-returns-2
 returns-2 c =
     let a = c .before .before .before .before .before .before .args in
-    ap answerOf
-    (lookup-hit (a .tags .now) (a .valid) (a .hit) (a .tag) (sym (length-limits _) ∙ sym (c .before .before .before .before .in-limits .ensures) ∙ c .before .before .before .if1 .taken)
-    (c .before .before .as-read .result) (c .before .before .as-read .ensures) (c .before .hit-way .ensures) (c .if2 .taken))
+    lookup-hit (a .tags .now) (a .valid) (a .hit) (a .tag) (sym (length-limits _) ∙ sym (c .before .before .before .before .in-limits .ensures) ∙ c .before .before .before .if1 .taken)
+    (c .before .before .as-read .result) (c .before .before .as-read .ensures) (c .before .hit-way .ensures) (c .if2 .taken)
 
 returns-3 : tie.Need-returns-3
 returns-3 c =
     let a = c .before .before .before .before .before .before .args in
-    ap answerOf
-    (lookup-absent (a .tags .now) (a .valid) (a .hit) (a .tag) (sym (length-limits _) ∙ sym (c .before .before .before .before .in-limits .ensures) ∙ c .before .before .before .if1 .taken)
-    (c .before .before .as-read .result) (c .before .before .as-read .ensures) (c .before .hit-way .ensures) (c .if2 .left))
+    lookup-absent (a .tags .now) (a .valid) (a .hit) (a .tag) (sym (length-limits _) ∙ sym (c .before .before .before .before .in-limits .ensures) ∙ c .before .before .before .if1 .taken)
+    (c .before .before .as-read .result) (c .before .before .as-read .ensures) (c .before .hit-way .ensures) (c .if2 .left)
 
 pub lookup-spec : {M : Type 1} → statement M
 lookup-spec =
