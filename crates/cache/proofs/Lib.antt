@@ -1,2 +1,4 @@
 -- The laws that the crates above cite.
+pub mod GeometryLaws
+pub mod CountLaws
 pub mod WorkedCases

@@ -5,3 +5,4 @@ pub mod Domains
 pub mod Refusal
 pub mod Step
 pub mod Fresh
+pub mod Inside

@@ -1,4 +1,7 @@
 // A set-associative cache whose domains each hold their own ways.
+mod account;
+mod place;
+
 use row::Answer;
 
 // The numbers of sets and ways, and the replacement rule.

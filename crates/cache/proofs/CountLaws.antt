@@ -1,0 +1,75 @@
+-- Counts: which are full, and what an answer adds.
+use mathlib.Core.Path.{_≡_, refl, sym, ap, _∙_}
+use mathlib.Core.Logic.{_⊎_, inl, inr}
+use mathlib.Core.Bool.{Bool, true, false, _||_}
+use mathlib.Core.List.{[], _∷_}
+use Prim.Native.Nat.{ℕ, zero, suc, _+_, _≤_, _<_}
+use native.Mathlib.Omega.{arith}
+use lib.Dec.{eqb}
+use borrow.Author.Tests.{eqb-false}
+use types.Run.{OneOf}
+use denote.Enum.Declared.{tagOf}
+use Rattle.row.proofs.Answer.{the-type}
+use Rattle.row.specs.declared.Answer.{Answer}
+use Rattle.row.specs.declared.Answer.the-variants.{Hit, Fill, Evict, Pass, Flush, Absent, Policy, Refused}
+use Rattle.waymap.proofs.Booleans.{or-none}
+use Rattle.cache.specs.Domains.{isFull, counted}
+use Rattle.cache.specs.declared.Counts.{Counts}
+
+-- ---- room for one more
+
+-- each count is below the largest
+pub record Room (c : Counts) : Type 0 where
+  pub hits : c .hits ≡ 4294967295 → ⊥
+  pub misses : c .misses ≡ 4294967295 → ⊥
+  pub evicted : c .evicted ≡ 4294967295 → ⊥
+  pub written : c .written ≡ 4294967295 → ⊥
+  pub flushed : c .flushed ≡ 4294967295 → ⊥
+
+pub room : (c : Counts) → isFull c ≡ false → Room c
+unfolding isFull
+room c e =
+    let hits = eqb (c .hits) 4294967295 in
+    let misses = eqb (c .misses) 4294967295 in
+    let evicted = eqb (c .evicted) 4294967295 in
+    let written = eqb (c .written) 4294967295 in
+    let flushed = eqb (c .flushed) 4294967295 in
+    let four = or-none (hits || misses || evicted || written) flushed e in
+    let three = or-none (hits || misses || evicted) written (four .0) in
+    let two = or-none (hits || misses) evicted (three .0) in
+    let one = or-none hits misses (two .0) in
+    record {
+      hits = eqb-false (c .hits) 4294967295 (one .0);
+      misses = eqb-false (c .misses) 4294967295 (one .1);
+      evicted = eqb-false (c .evicted) 4294967295 (two .1);
+      written = eqb-false (c .written) 4294967295 (three .1);
+      flushed = eqb-false (c .flushed) 4294967295 (four .1) }
+
+-- ---- the answers that bind nothing, by their place among the answers
+
+pub is-pass : (a : Answer) → tagOf the-type a ≡ 3 → a ≡ Pass
+is-pass (Hit w) e = absurd (omega arith)
+is-pass (Fill w) e = absurd (omega arith)
+is-pass (Evict w tag dirty) e = absurd (omega arith)
+is-pass Pass e = refl
+is-pass (Flush w dirty) e = absurd (omega arith)
+is-pass Absent e = absurd (omega arith)
+is-pass (Policy n d) e = absurd (omega arith)
+is-pass (Refused n) e = absurd (omega arith)
+
+none-above : (n : ℕ) → n < 5 → (n ≡ 5) ⊎ ((n ≡ 6) ⊎ (n ≡ 7)) → ⊥
+none-above n h (inl e) = omega arith
+none-above n h (inr (inl e)) = omega arith
+none-above n h (inr (inr e)) = omega arith
+
+-- the answers that move no count
+pub rest-stays : (a : Answer) (c : Counts) → OneOf (5 ∷ 6 ∷ 7 ∷ []) (tagOf the-type a) → c ≡ counted a c
+unfolding counted
+rest-stays (Hit w) c h = absurd (none-above 0 (omega arith) h)
+rest-stays (Fill w) c h = absurd (none-above 1 (omega arith) h)
+rest-stays (Evict w tag dirty) c h = absurd (none-above 2 (omega arith) h)
+rest-stays Pass c h = absurd (none-above 3 (omega arith) h)
+rest-stays (Flush w dirty) c h = absurd (none-above 4 (omega arith) h)
+rest-stays Absent c h = refl
+rest-stays (Policy n d) c h = refl
+rest-stays (Refused n) c h = refl

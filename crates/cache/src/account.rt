@@ -1,0 +1,78 @@
+// A domain's counts.
+use crate::Counts;
+use row::Answer;
+ghost use mathlib.Core.Path.{_≡_};
+ghost use mathlib.Core.Bool.{false};
+ghost use Prim.Native.Nat.{_+_, _<_};
+ghost use Rattle.waymap.specs.Bits.{digit};
+ghost use Rattle.cache.specs.Domains.{isFull, counted as countedBy};
+
+const LARGEST: u32 = 4_294_967_295;
+
+// Whether a count has reached the largest number.
+pub fn is_full(c: Counts) -> bool
+    ensures { λ r. ⌜ r ≡ isFull c ⌝ }
+{
+    if c.hits == LARGEST {
+        return true;
+    }
+    if c.misses == LARGEST {
+        return true;
+    }
+    if c.evicted == LARGEST {
+        return true;
+    }
+    if c.written == LARGEST {
+        return true;
+    }
+    c.flushed == LARGEST
+}
+
+// One more where the line is dirty.
+fn with_dirty(written: u32, dirty: bool) -> u32
+    requires { ⌜ written < 4294967295 ⌝ }
+    ensures { λ r. ⌜ r ≡ written + digit dirty ⌝ }
+{
+    if dirty {
+        return written + 1;
+    }
+    written
+}
+
+// The counts after an answer.
+pub fn counted(answer: Answer, c: Counts) -> Counts
+    requires { ⌜ isFull c ≡ false ⌝ }
+    ensures { λ r. ⌜ r ≡ countedBy answer c ⌝ }
+{
+    let mut next = c;
+    match answer {
+        Answer::Hit(_way) => {
+            next.hits = c.hits + 1;
+            next
+        }
+        Answer::Fill(_way) => {
+            next.misses = c.misses + 1;
+            next
+        }
+        Answer::Pass => {
+            next.misses = c.misses + 1;
+            next
+        }
+        Answer::Evict {
+            way: _,
+            tag: _,
+            dirty,
+        } => {
+            next.misses = c.misses + 1;
+            next.evicted = c.evicted + 1;
+            next.written = with_dirty(c.written, dirty);
+            next
+        }
+        Answer::Flush { way: _, dirty } => {
+            next.written = with_dirty(c.written, dirty);
+            next.flushed = c.flushed + 1;
+            next
+        }
+        _ => next,
+    }
+}

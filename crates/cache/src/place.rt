@@ -1,0 +1,61 @@
+// Where an address's line can be, and where a set's tags lie.
+use crate::Geometry;
+ghost use mathlib.Core.Path.{_≡_};
+ghost use Prim.Native.Nat.{_<_};
+ghost use Rattle.cache.specs.Geometry.{within as withinLimits};
+ghost use Rattle.cache.specs.Inside.{Limited, PlaceOf, RowOf};
+
+const MAX_SETS: usize = 256;
+
+// An address's set, and its tag there.
+pub struct Place {
+    pub set: usize,
+    pub tag: u64,
+}
+
+// A set's part of the tags.
+pub struct Span {
+    pub start: usize,
+    pub stop: usize,
+}
+
+// Whether the geometry is within the limits.
+pub fn within(g: Geometry) -> bool
+    ensures { λ r. ⌜ r ≡ withinLimits g ⌝ }
+{
+    let sets = g.sets;
+    if sets == 0 {
+        return false;
+    }
+    if MAX_SETS < sets {
+        return false;
+    }
+    if sets & (sets - 1) != 0 {
+        return false;
+    }
+    replacement::in_limits(g.ways, g.rule)
+}
+
+pub fn place_of(g: Geometry, address: u64) -> Place
+    requires { ⌜ Limited g ⌝ }
+    ensures { λ r. ⌜ PlaceOf g address r ⌝ }
+{
+    let sets = g.sets;
+    let line = address / 64;
+    Place {
+        set: (line % (sets as u64)) as usize,
+        tag: line / (sets as u64),
+    }
+}
+
+pub fn span_of(g: Geometry, set: usize) -> Span
+    requires { ⌜ Limited g ⌝ }
+    requires { ⌜ set < g .sets ⌝ }
+    ensures { λ r. ⌜ RowOf g set (r .start) (r .stop) ⌝ }
+{
+    let start = set * g.ways;
+    Span {
+        start,
+        stop: start + g.ways,
+    }
+}
