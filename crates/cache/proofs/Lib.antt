@@ -1,4 +1,6 @@
 -- The laws that the crates above cite.
 pub mod GeometryLaws
 pub mod CountLaws
+pub mod SetLaws
+pub mod SweepLaws
 pub mod WorkedCases

@@ -1,17 +1,21 @@
 -- What the crate's inner functions go by: they are called within the limits, on tables of their lengths.
 use mathlib.Core.Path.{_≡_}
-use mathlib.Core.Bool.{true}
+use mathlib.Core.Bool.{true, cond}
 use Prim.Native.Nat.{ℕ, _+_, _*_, _≤_, _<_}
+use lib.Dec.{eqb}
 use lib.ListN.{length}
 use Rattle.replacement.specs.Calls.{inLimits}
-use Rattle.row.specs.Row as Row
-use Rattle.row.specs.Row.{Row, Effect}
+use Rattle.replacement.specs.Rule.{Rule, ruleOf}
+use Rattle.row.specs.Row.{Row, Effect, asRead, dropped, droppedDirty, cleaned}
+use Rattle.row.specs.Calls.{accessOf, flushOf, cleanOf}
 use Rattle.row.specs.declared.Maps.{Maps}
 use Rattle.row.specs.declared.Answer.{Answer}
+use Rattle.row.specs.declared.Answer.the-variants.{Hit, Fill, Evict, Pass, Flush, Absent, Policy, Refused}
 use Rattle.cache.specs.Geometry.{setOf, tagOf}
 use Rattle.cache.specs.Tables.{Tables, rowAt, putRow, eachSet, total}
 use Rattle.cache.specs.declared.Geometry.{Geometry}
 use Rattle.cache.specs.declared.place.Place.{Place}
+use Rattle.cache.specs.declared.sets.Drops.{Drops}
 
 
 -- A geometry within the limits.
@@ -41,3 +45,47 @@ pub record PlaceOf (g : Geometry) (address : ℕ) (p : Place) : Type 0 where
   pub set-is : p .set ≡ setOf g address
   pub set-lt : p .set < g .sets
   pub tag-is : p .tag ≡ tagOf g address
+
+-- What the kinds 0 to 3 do to a row: kind 2 is a store, and 3 a flush.
+unfoldable pub workOf : ℕ → ℕ → Maps → ℕ → Row → Effect
+workOf kind rule p tag r = cond (eqb kind 3) (flushOf p tag r) (accessOf rule p tag (eqb kind 2) r)
+
+-- An answer with the tables that the work leaves.
+pub record Work : Type 0 where
+  pub answer : Answer
+  pub tables : Tables
+
+abbrev pub RowWork : Answer → Tables → Work → Type 0
+RowWork a t w = record { answer = a; tables = t } ≡ w
+
+-- The work on one set's row, put back.
+unfoldable pub onRow : ℕ → ℕ → (Row → Effect) → Tables → Work
+onRow W s f t = record { answer = f (rowAt W s t) .answer; tables = putRow W s (f (rowAt W s t) .row) t }
+
+unfoldable pub workAt : Geometry → ℕ → Maps → ℕ → Tables → Work
+workAt g kind p address t = onRow (g .ways) (setOf g address) (workOf kind (g .rule) p (tagOf g address)) t
+
+unfoldable pub sweepAt : Geometry → Maps → Maps → ℕ → Tables → Work
+sweepAt g old new s t = onRow (g .ways) s (cleanOf (g .rule) old new) t
+
+-- The drops that an answer tells of.
+abbrev pub dropsIn : Answer → Drops
+dropsIn (Policy n d) = record { dropped = n; dirty = d }
+dropsIn (Hit w) = record { dropped = 0; dirty = 0 }
+dropsIn (Fill w) = record { dropped = 0; dirty = 0 }
+dropsIn (Evict w tag dirty) = record { dropped = 0; dirty = 0 }
+dropsIn Pass = record { dropped = 0; dirty = 0 }
+dropsIn (Flush w dirty) = record { dropped = 0; dirty = 0 }
+dropsIn Absent = record { dropped = 0; dirty = 0 }
+dropsIn (Refused n) = record { dropped = 0; dirty = 0 }
+
+-- What the cleaning of one set, or of the first n sets, leaves and tells.
+pub record Swept (g : Geometry) (old new : Maps) (s : ℕ) (before after : Tables) (d : Drops) : Type 0 where
+  pub tables-is : after ≡ putRow (g .ways) s (cleaned (ruleOf (g .rule) (g .ways)) (asRead (g .ways) old) (asRead (g .ways) new) (rowAt (g .ways) s before)) before
+  pub dropped-is : d .dropped ≡ dropped (asRead (g .ways) old) (asRead (g .ways) new) (rowAt (g .ways) s before)
+  pub dirty-is : d .dirty ≡ droppedDirty (asRead (g .ways) old) (asRead (g .ways) new) (rowAt (g .ways) s before)
+
+pub record AllSwept (g : Geometry) (old new : Maps) (n : ℕ) (before after : Tables) (drops dirt : ℕ) : Type 0 where
+  pub tables-is : after ≡ eachSet (g .ways) n (cleaned (ruleOf (g .rule) (g .ways)) (asRead (g .ways) old) (asRead (g .ways) new)) before
+  pub dropped-is : drops ≡ total (g .ways) n (dropped (asRead (g .ways) old) (asRead (g .ways) new)) before
+  pub dirty-is : dirt ≡ total (g .ways) n (droppedDirty (asRead (g .ways) old) (asRead (g .ways) new)) before

@@ -1,6 +1,7 @@
 // A set-associative cache whose domains each hold their own ways.
 mod account;
 mod place;
+mod sets;
 
 use row::Answer;
 

@@ -1,0 +1,107 @@
+// The work on the sets of the tables: a set's row is lent, and its maps and word are put back.
+use crate::Geometry;
+use crate::place;
+use row::Answer;
+use row::Done;
+use row::Lines;
+use row::Maps;
+ghost use mathlib.Core.Path.{_≡_};
+ghost use Prim.Native.Nat.{_<_};
+ghost use Rattle.row.specs.Calls.{rowOf, result};
+ghost use Rattle.cache.specs.Step.{tablesOf};
+ghost use Rattle.cache.specs.Inside.{Shaped, workOf, RowWork, workAt, dropsIn, Swept, AllSwept};
+
+// An access or a flush on a row: kind 2 is a store, and 3 a flush.
+fn on_row(tags: &mut [u64], lines: Lines, rule: usize, maps: Maps, kind: u8, tag: u64) -> Done
+    ensures { λ r. ⌜ result r (now (tags .exit)) ≡ workOf kind rule maps tag (rowOf (now (tags .entry)) lines) ⌝ }
+{
+    if kind == 3 {
+        return row::flush(tags, lines, maps, tag);
+    }
+    row::access(tags, lines, rule, maps, tag, kind == 2)
+}
+
+// An access or a flush in the tables.
+pub fn use_set(g: Geometry, tags: &mut [u64], valid: &mut [u16], dirty: &mut [u16], words: &mut [u64], maps: Maps, kind: u8, address: u64) -> Answer
+    requires { ⌜ Shaped g (tablesOf (now tags) (now valid) (now dirty) (now words)) ⌝ }
+    ensures { λ r. ⌜ RowWork r (tablesOf (now (tags .exit)) (now (valid .exit)) (now (dirty .exit)) (now (words .exit))) (workAt g kind maps address (tablesOf (now (tags .entry)) (now (valid .entry)) (now (dirty .entry)) (now (words .entry)))) ⌝ }
+{
+    let found = place::place_of(g, address);
+    let set = found.set;
+    let span = place::span_of(g, set);
+    let start = span.start;
+    let stop = span.stop;
+    let lines = Lines {
+        valid: valid[set],
+        dirty: dirty[set],
+        word: words[set],
+    };
+    let done = on_row(&mut tags[start..stop], lines, g.rule, maps, kind, found.tag);
+    let left = done.lines;
+    valid[set] = left.valid;
+    dirty[set] = left.dirty;
+    words[set] = left.word;
+    done.answer
+}
+
+// The valid lines that a change of policy dropped, and how many of them were dirty.
+pub struct Drops {
+    pub dropped: usize,
+    pub dirty: usize,
+}
+
+fn drops_of(answer: Answer) -> Drops
+    ensures { λ r. ⌜ r ≡ dropsIn answer ⌝ }
+{
+    match answer {
+        Answer::Policy { dropped, dirty } => Drops { dropped, dirty },
+        _ => Drops {
+            dropped: 0,
+            dirty: 0,
+        },
+    }
+}
+
+// The cleaning of one set in the tables.
+fn sweep_set(g: Geometry, tags: &mut [u64], valid: &mut [u16], dirty: &mut [u16], words: &mut [u64], old: Maps, new: Maps, set: usize) -> Drops
+    requires { ⌜ Shaped g (tablesOf (now tags) (now valid) (now dirty) (now words)) ⌝ }
+    requires { ⌜ set < g .sets ⌝ }
+    ensures { λ r. ⌜ Swept g old new set (tablesOf (now (tags .entry)) (now (valid .entry)) (now (dirty .entry)) (now (words .entry))) (tablesOf (now (tags .exit)) (now (valid .exit)) (now (dirty .exit)) (now (words .exit))) r ⌝ }
+{
+    let span = place::span_of(g, set);
+    let start = span.start;
+    let stop = span.stop;
+    let lines = Lines {
+        valid: valid[set],
+        dirty: dirty[set],
+        word: words[set],
+    };
+    let done = row::clean(&mut tags[start..stop], lines, g.rule, old, new);
+    let left = done.lines;
+    valid[set] = left.valid;
+    dirty[set] = left.dirty;
+    words[set] = left.word;
+    let answer = done.answer;
+    drops_of(answer)
+}
+
+// The cleaning of every set.
+pub fn sweep_sets(g: Geometry, tags: &mut [u64], valid: &mut [u16], dirty: &mut [u16], words: &mut [u64], old: Maps, new: Maps) -> Drops
+    requires { ⌜ Shaped g (tablesOf (now tags) (now valid) (now dirty) (now words)) ⌝ }
+    ensures { λ r. ⌜ AllSwept g old new (g .sets) (tablesOf (now (tags .entry)) (now (valid .entry)) (now (dirty .entry)) (now (words .entry))) (tablesOf (now (tags .exit)) (now (valid .exit)) (now (dirty .exit)) (now (words .exit))) (r .dropped) (r .dirty) ⌝ }
+{
+    let sets = g.sets;
+    let mut dropped = 0;
+    let mut dirt = 0;
+    let mut set = 0;
+    while set < sets {
+        let drops = sweep_set(g, tags, valid, dirty, words, old, new, set);
+        dropped = dropped + drops.dropped;
+        dirt = dirt + drops.dirty;
+        set = set + 1;
+    }
+    Drops {
+        dropped,
+        dirty: dirt,
+    }
+}
