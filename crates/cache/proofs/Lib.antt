@@ -3,4 +3,5 @@ pub mod GeometryLaws
 pub mod CountLaws
 pub mod SetLaws
 pub mod SweepLaws
+pub mod RefusalLaws
 pub mod WorkedCases

@@ -41,7 +41,7 @@ isFull c =
     || eqb (c .flushed) 4294967295
 
 -- "A hit, a miss and an evicted line each add one to their count, and a dirty evicted line one to written back too." Of a flush,
--- "flushed rises by one and, if dirty, written back too". Nothing else moves a count.
+-- "flushed rises by one and, if dirty, written back too". No other answer moves a count.
 unfoldable pub counted : Answer → Counts → Counts
 counted (Hit w) c = record { hits = c .hits + 1; misses = c .misses; evicted = c .evicted; written = c .written; flushed = c .flushed }
 counted (Fill w) c = record { hits = c .hits; misses = c .misses + 1; evicted = c .evicted; written = c .written; flushed = c .flushed }

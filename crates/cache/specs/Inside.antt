@@ -89,3 +89,4 @@ pub record AllSwept (g : Geometry) (old new : Maps) (n : ℕ) (before after : Ta
   pub tables-is : after ≡ eachSet (g .ways) n (cleaned (ruleOf (g .rule) (g .ways)) (asRead (g .ways) old) (asRead (g .ways) new)) before
   pub dropped-is : drops ≡ total (g .ways) n (dropped (asRead (g .ways) old) (asRead (g .ways) new)) before
   pub dirty-is : dirt ≡ total (g .ways) n (droppedDirty (asRead (g .ways) old) (asRead (g .ways) new)) before
+

@@ -2,6 +2,7 @@
 mod account;
 mod place;
 mod sets;
+mod verdict;
 
 use row::Answer;
 

@@ -243,7 +243,7 @@ masked-bit W m x i node h =
     ∙ rw (bit-word 64 (λ (j : ℕ). ltb j (W - 1) && not (free W m j)) i, bit-word 64 (forcedRight W m) i, lt-ltb i 64 h, lt-ltb i (W - 1) node)
     (choose (free W m i) (bit x i) (forcedRight W m i))
 
--- Demand 2: the walk and the masked word's walk choose the same victim, for every word and map and every number of ways.
+-- The walk and the masked word's walk choose the same victim, for every word and map and every number of ways.
 pub walk-is-masked : (W : ℕ) (m : Bits) (x : ℕ) → W ≤ 64 → victim W m (bit x) ≡ maskedVictim W m x
 unfolding victim maskedVictim
 walk-is-masked W m x h = walked-ext W (λ i node. sym (masked-bit W m x i node (omega arith)))
