@@ -13,20 +13,6 @@ use Rattle.waymap.specs.Bits.{Bits}
 use Rattle.waymap.proofs.Booleans.{cases}
 use Rattle.row.specs.Row.{wiped}
 
--- No way below `way` passes the test, and it is at most n.
-pub record Passed (p : Bits) (n way : ℕ) : Type 0 where
-  pub within : way ≤ n
-  pub none : (k : ℕ) → k < way → p k ≡ false
-
-pub passed-none : (p : Bits) (n : ℕ) → Passed p n 0
-passed-none p n = record { within = omega arith; none = λ k h. absurd (omega arith) }
-
-pub passed-more : {p : Bits} {n way : ℕ} → Passed p n way → way < n → p way ≡ false → Passed p n (way + 1)
-passed-more {p} {n} {way} l h e = record {
-  within = omega arith;
-  none = λ k m. cases (eqb k way) (λ t. rw (eqb-true k way t) e) (λ t. l .none k (omega (arith, eqb-false k way t)));
-}
-
 pub wiped-length : (gone : Bits) (ts : List ℕ) → length (wiped gone ts) ≡ length ts
 unfolding wiped
 wiped-length gone [] = refl

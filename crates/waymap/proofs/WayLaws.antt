@@ -135,6 +135,27 @@ any-lowest n p =
     (λ t. t ∙ sym (lt-ltb (lowest n p) n (lowest-found n p t .0)))
     (λ t. t ∙ sym (le-ltb (lowest n p) n (le-of-eq (sym (lowest-none n p (λ k l. none-at n p k t l))))))
 
+-- A search from below: no way before `way` passes the test.
+pub record Passed (p : Bits) (n way : ℕ) : Type 0 where
+  pub within : way ≤ n
+  pub none : (k : ℕ) → k < way → p k ≡ false
+
+pub passed-none : (p : Bits) (n : ℕ) → Passed p n 0
+passed-none p n = record { within = omega arith; none = λ k h. absurd (omega arith) }
+
+pub passed-more : {p : Bits} {n way : ℕ} → Passed p n way → way < n → p way ≡ false → Passed p n (way + 1)
+passed-more {p} {n} {way} l h e = record {
+  within = omega arith;
+  none = λ k m. cases (eqb k way) (λ t. rw (eqb-true k way t) e) (λ t. l .none k (omega (arith, eqb-false k way t)));
+}
+
+-- what it answers where it finds one, and where it finds none
+pub passed-found : {p : Bits} {n way : ℕ} → Passed p n way → way < n → p way ≡ true → any n p ≡ true
+passed-found {p} {n} {way} l h e = any-at n p way h e
+
+pub passed-all : {p : Bits} {n way : ℕ} → Passed p n way → n ≤ way → any n p ≡ false
+passed-all {p} {n} {way} l h = any-none n (λ i k. l .none i (lt-of-lt-of-le k h))
+
 -- ---- how many ways
 
 pub count-ext : (n : ℕ) {p q : Bits} → ((i : ℕ) → i < n → p i ≡ q i) → count n p ≡ count n q

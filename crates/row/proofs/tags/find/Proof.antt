@@ -6,8 +6,7 @@ use native.Mathlib.Omega.{arith}
 use lib.Dec.{eqb}
 use lib.ListN.{length, getD}
 use Rattle.waymap.specs.Bits.{bit}
-use Rattle.waymap.proofs.WayLaws.{lowest-is, lowest-none}
-use Rattle.row.proofs.TagLaws.{Passed, passed-none, passed-more}
+use Rattle.waymap.proofs.WayLaws.{Passed, passed-none, passed-more, lowest-is, lowest-none}
 use Rattle.row.proofs.tags.find.Statement.{statement}
 use Rattle.row.proofs.tags.find.Tie as tie
 
