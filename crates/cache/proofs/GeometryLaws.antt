@@ -13,7 +13,7 @@ use Rattle.waymap.proofs.Booleans.{cases, and-left, and-right}
 use Rattle.waymap.proofs.WayLaws.{any-ext, any-none, any-found}
 use Rattle.replacement.specs.Calls.{inLimits}
 use Rattle.replacement.proofs.CallLaws as ReplacementLaws
-use Rattle.cache.specs.Geometry.{isPower, within, setOf, tagOf}
+use Rattle.cache.specs.Geometry.{maxSets, isPower, within, setOf, tagOf}
 use Rattle.cache.specs.Inside.{Limited, RowOf, PlaceOf}
 use Rattle.cache.specs.declared.Geometry.{Geometry}
 use Rattle.cache.specs.declared.place.Place.{Place}
@@ -64,12 +64,12 @@ pub limits-none : (g : Geometry) → g .sets ≡ 0 → within g ≡ false
 unfolding within isPower
 limits-none g e = rw (any-none 64 {p = λ (k : ℕ). eqb (g .sets) (2 ^ k)} (λ k l. ne-eqb (g .sets) (2 ^ k) (λ q. omega (arith, pow-pos k))))
 
-pub limits-many : (g : Geometry) → 256 < g .sets → within g ≡ false
+pub limits-many : (g : Geometry) → maxSets < g .sets → within g ≡ false
 unfolding within
-limits-many g h = rw (lt-leb (g .sets) 256 h, and-false (isPower (g .sets)))
+limits-many g h = rw (lt-leb (g .sets) maxSets h, and-false (isPower (g .sets)))
 
 -- a number of sets below 2 ^ 64, as the code tests it
-module _ (g : Geometry) (some : g .sets ≡ 0 → ⊥) (most : g .sets ≤ 256) where
+module _ (g : Geometry) (some : g .sets ≡ 0 → ⊥) (most : g .sets ≤ maxSets) where
   power-is : isPower (g .sets) ≡ eqb (bitAnd (g .sets) (g .sets - 1)) 0
   unfolding isPower
   power-is = sym (power-test 64 (g .sets) (omega (arith, some)) (lt-of-le-of-lt most (lit< tt)))
@@ -80,19 +80,19 @@ module _ (g : Geometry) (some : g .sets ≡ 0 → ⊥) (most : g .sets ≤ 256) 
 
   pub limits-rule : {r : Bool} → bitAnd (g .sets) (g .sets - 1) ≡ 0 → r ≡ inLimits (g .ways) (g .rule) → r ≡ within g
   unfolding within
-  limits-rule e q = rw (power-is, e, le-leb (g .sets) 256 most) q
+  limits-rule e q = rw (power-is, e, le-leb (g .sets) maxSets most) q
 
 -- what is within the limits
 pub limited : (g : Geometry) → within g ≡ true → Limited g
 unfolding within isPower
 limited g e =
-    let sets = and-left (isPower (g .sets) && leb (g .sets) 256) (inLimits (g .ways) (g .rule)) e in
-    let rule = and-right (isPower (g .sets) && leb (g .sets) 256) (inLimits (g .ways) (g .rule)) e in
+    let sets = and-left (isPower (g .sets) && leb (g .sets) maxSets) (inLimits (g .ways) (g .rule)) e in
+    let rule = and-right (isPower (g .sets) && leb (g .sets) maxSets) (inLimits (g .ways) (g .rule)) e in
     let size = ReplacementLaws.sized (g .ways) (g .rule) rule in
     record {
       limits = rule;
-      some-set = positive (any-found 64 (λ (k : ℕ). eqb (g .sets) (2 ^ k)) (and-left (isPower (g .sets)) (leb (g .sets) 256) sets));
-      most-sets = leb-true (g .sets) 256 (and-right (isPower (g .sets)) (leb (g .sets) 256) sets);
+      some-set = positive (any-found 64 (λ (k : ℕ). eqb (g .sets) (2 ^ k)) (and-left (isPower (g .sets)) (leb (g .sets) maxSets) sets));
+      most-sets = leb-true (g .sets) maxSets (and-right (isPower (g .sets)) (leb (g .sets) maxSets) sets);
       some-way = omega (arith, size .least);
       most-ways = size .most }
   where
@@ -105,7 +105,7 @@ limited g e =
 pub row-within : (s S W : ℕ) → s < S → s * W + W ≤ S * W
 row-within s S W h = subst (λ (n : ℕ). n ≤ S * W) (suc-mul s W) (mul-le-mul-right W h)
 
-pub rows-bound : (g : Geometry) → Limited g → g .sets * g .ways ≤ 4096
+pub rows-bound : (g : Geometry) → Limited g → g .sets * g .ways ≤ maxSets * 16
 rows-bound g l = le-trans (mul-le-mul-left (g .sets) (l .most-ways)) (omega (arith, l .most-sets))
 
 pub span-is : (g : Geometry) (s : ℕ) → s < g .sets → RowOf g s (s * g .ways) (s * g .ways + g .ways)

@@ -4,4 +4,5 @@ pub mod CountLaws
 pub mod SetLaws
 pub mod SweepLaws
 pub mod RefusalLaws
+pub mod StepLaws
 pub mod WorkedCases

@@ -1,19 +1,24 @@
 -- What the crate's inner functions go by: they are called within the limits, on tables of their lengths.
 use mathlib.Core.Path.{_≡_}
-use mathlib.Core.Bool.{true, cond}
+use mathlib.Core.Bool.{Bool, true, false, cond}
 use Prim.Native.Nat.{ℕ, _+_, _*_, _≤_, _<_}
-use lib.Dec.{eqb}
 use lib.ListN.{length}
 use Rattle.replacement.specs.Calls.{inLimits}
 use Rattle.replacement.specs.Rule.{Rule, ruleOf}
 use Rattle.row.specs.Row.{Row, Effect, asRead, dropped, droppedDirty, cleaned}
-use Rattle.row.specs.Calls.{accessOf, flushOf, cleanOf}
+use Rattle.row.specs.Row as Row
+use Rattle.row.specs.Calls.{accessOf, flushOf}
 use Rattle.row.specs.declared.Maps.{Maps}
 use Rattle.row.specs.declared.Answer.{Answer}
 use Rattle.row.specs.declared.Answer.the-variants.{Hit, Fill, Evict, Pass, Flush, Absent, Policy, Refused}
-use Rattle.cache.specs.Geometry.{setOf, tagOf}
+use Rattle.cache.specs.Geometry.{maxSets, setOf, tagOf}
 use Rattle.cache.specs.Tables.{Tables, rowAt, putRow, eachSet, total}
+use Rattle.cache.specs.Domains.{domainOf, policies}
+use Rattle.cache.specs.Refusal.{Kind, access, flush, policy, unknown, useRefusal, policyRefusal}
+use Rattle.cache.specs.Step.{State, Outcome, useLine, changePolicy, decided}
 use Rattle.cache.specs.declared.Geometry.{Geometry}
+use Rattle.cache.specs.declared.Asked.{Asked}
+use Rattle.cache.specs.declared.Asked.the-variants as AskedIs
 use Rattle.cache.specs.declared.place.Place.{Place}
 use Rattle.cache.specs.declared.sets.Drops.{Drops}
 
@@ -22,7 +27,7 @@ use Rattle.cache.specs.declared.sets.Drops.{Drops}
 pub record Limited (g : Geometry) : Type 0 where
   pub limits : inLimits (g .ways) (g .rule) ≡ true
   pub some-set : 0 < g .sets
-  pub most-sets : g .sets ≤ 256
+  pub most-sets : g .sets ≤ maxSets
   pub some-way : 0 < g .ways
   pub most-ways : g .ways ≤ 16
 
@@ -46,9 +51,9 @@ pub record PlaceOf (g : Geometry) (address : ℕ) (p : Place) : Type 0 where
   pub set-lt : p .set < g .sets
   pub tag-is : p .tag ≡ tagOf g address
 
--- What the kinds 0 to 3 do to a row: kind 2 is a store, and 3 a flush.
-unfoldable pub workOf : ℕ → ℕ → Maps → ℕ → Row → Effect
-workOf kind rule p tag r = cond (eqb kind 3) (flushOf p tag r) (accessOf rule p tag (eqb kind 2) r)
+-- What an access or a flush does to a row.
+unfoldable pub workOf : Bool → Bool → ℕ → Maps → ℕ → Row → Effect
+workOf flushes store rule p tag r = cond flushes (flushOf p tag r) (accessOf rule p tag store r)
 
 -- An answer with the tables that the work leaves.
 pub record Work : Type 0 where
@@ -62,11 +67,8 @@ RowWork a t w = record { answer = a; tables = t } ≡ w
 unfoldable pub onRow : ℕ → ℕ → (Row → Effect) → Tables → Work
 onRow W s f t = record { answer = f (rowAt W s t) .answer; tables = putRow W s (f (rowAt W s t) .row) t }
 
-unfoldable pub workAt : Geometry → ℕ → Maps → ℕ → Tables → Work
-workAt g kind p address t = onRow (g .ways) (setOf g address) (workOf kind (g .rule) p (tagOf g address)) t
-
-unfoldable pub sweepAt : Geometry → Maps → Maps → ℕ → Tables → Work
-sweepAt g old new s t = onRow (g .ways) s (cleanOf (g .rule) old new) t
+unfoldable pub workAt : Geometry → Bool → Bool → Maps → ℕ → Tables → Work
+workAt g flushes store p address t = onRow (g .ways) (setOf g address) (workOf flushes store (g .rule) p (tagOf g address)) t
 
 -- The drops that an answer tells of.
 abbrev pub dropsIn : Answer → Drops
@@ -90,3 +92,22 @@ pub record AllSwept (g : Geometry) (old new : Maps) (n : ℕ) (before after : Ta
   pub dropped-is : drops ≡ total (g .ways) n (dropped (asRead (g .ways) old) (asRead (g .ways) new)) before
   pub dirty-is : dirt ≡ total (g .ways) n (droppedDirty (asRead (g .ways) old) (asRead (g .ways) new)) before
 
+-- What the code's kinds are among document 01's.
+abbrev pub kindIs : Asked → Kind
+kindIs (AskedIs.Line true store) = flush
+kindIs (AskedIs.Line false store) = access store
+kindIs AskedIs.Policy = policy
+kindIs AskedIs.Unknown = unknown
+
+-- An access or a flush, with its refusals, and a change of policy with its own.
+abbrev pub lineWork : Bool → Rule → Bool → Maps → ℕ → Row → Effect
+lineWork true R store = Row.flush
+lineWork false R store = λ p tag. Row.access R p tag store
+
+unfoldable pub lineStep : Geometry → Bool → Bool → ℕ → ℕ → State → Outcome
+lineStep g flushes store d arg s =
+    decided (useRefusal (policies (g .ways) (s .domains) d) (domainOf (s .domains) d .counts))
+    (useLine g (lineWork flushes (ruleOf (g .rule) (g .ways)) store) d arg s) s
+
+unfoldable pub policyStep : Geometry → ℕ → ℕ → State → Outcome
+policyStep g d arg s = decided (policyRefusal g (policies (g .ways) (s .domains)) d arg) (changePolicy g d arg s) s

@@ -2,10 +2,11 @@
 use crate::Counts;
 use row::Answer;
 ghost use mathlib.Core.Path.{_≡_};
-ghost use mathlib.Core.Bool.{false};
+ghost use mathlib.Core.Bool.{false, cond};
 ghost use Prim.Native.Nat.{_+_, _<_};
+ghost use lib.Dec.{eqb};
 ghost use Rattle.waymap.specs.Bits.{digit};
-ghost use Rattle.cache.specs.Domains.{isFull, counted as countedBy};
+ghost use Rattle.cache.specs.Domains.{noCounts, isFull, counted as countedBy};
 
 const LARGEST: u32 = 4_294_967_295;
 
@@ -75,4 +76,20 @@ pub fn counted(answer: Answer, c: Counts) -> Counts
         }
         _ => next,
     }
+}
+
+// The counts after a change of policy: zero after argument 0, which removes the domain.
+pub fn kept(c: Counts, argument: u64) -> Counts
+    ensures { λ r. ⌜ r ≡ cond (eqb argument 0) noCounts c ⌝ }
+{
+    if argument == 0 {
+        return Counts {
+            hits: 0,
+            misses: 0,
+            evicted: 0,
+            written: 0,
+            flushed: 0,
+        };
+    }
+    c
 }

@@ -5,6 +5,13 @@ mod sets;
 mod verdict;
 
 use row::Answer;
+use row::Maps;
+ghost use mathlib.Core.Path.{_≡_};
+ghost use Prim.Native.Nat.{_<_};
+ghost use Rattle.cache.specs.Tables.{sized as sizedAs};
+ghost use Rattle.cache.specs.Refusal.{kindOf};
+ghost use Rattle.cache.specs.Step.{tablesOf, outcome, step as stepOf};
+ghost use Rattle.cache.specs.Inside.{Limited, Shaped, kindIs, lineStep, policyStep};
 
 // The numbers of sets and ways, and the replacement rule.
 pub struct Geometry {
@@ -38,4 +45,117 @@ pub struct Domains {
 pub struct Stepped {
     pub answer: Answer,
     pub domains: Domains,
+}
+
+// What a kind number asks for.
+pub enum Asked {
+    Line { flush: bool, store: bool },
+    Policy,
+    Unknown,
+}
+
+fn kind_of(kind: u8) -> Asked
+    ensures { λ r. ⌜ kindIs r ≡ kindOf kind ⌝ }
+{
+    match kind {
+        0..=1 => Asked::Line {
+            flush: false,
+            store: false,
+        },
+        2 => Asked::Line {
+            flush: false,
+            store: true,
+        },
+        3 => Asked::Line {
+            flush: true,
+            store: false,
+        },
+        16 => Asked::Policy,
+        4..=15 | 17..=255 => Asked::Unknown,
+    }
+}
+
+// Whether the tables have their lengths.
+fn sized(g: Geometry, tags: usize, valid: usize, dirty: usize, words: usize) -> bool
+    requires { ⌜ Limited g ⌝ }
+    ensures { λ r. ⌜ r ≡ sizedAs g (record { tags = tags; valid = valid; dirty = dirty; words = words }) ⌝ }
+{
+    let sets = g.sets;
+    if tags != sets * g.ways {
+        return false;
+    }
+    if valid != sets {
+        return false;
+    }
+    if dirty != sets {
+        return false;
+    }
+    words == sets
+}
+
+// An access or a flush.
+fn use_step(g: Geometry, tags: &mut [u64], valid: &mut [u16], dirty: &mut [u16], words: &mut [u64], domains: Domains, domain: usize, flush: bool, store: bool, argument: u64) -> Stepped
+    requires { ⌜ Shaped g (tablesOf (now tags) (now valid) (now dirty) (now words)) ⌝ }
+    requires { ⌜ domain < 16 ⌝ }
+    ensures { λ r. ⌜ outcome r (tablesOf (now (tags .exit)) (now (valid .exit)) (now (dirty .exit)) (now (words .exit))) ≡ lineStep g flush store domain argument (record { tables = tablesOf (now (tags .entry)) (now (valid .entry)) (now (dirty .entry)) (now (words .entry)); domains = domains }) ⌝ }
+{
+    let own = domains.records[domain];
+    let counts = own.counts;
+    let stored = Maps {
+        hit: own.hit,
+        fill: own.fill,
+    };
+    let number = verdict::use_refusal(row::as_read(g.ways, stored), counts);
+    if number != 0 {
+        return Stepped {
+            answer: Answer::Refused(number),
+            domains,
+        };
+    }
+    let answer = sets::use_set(g, tags, valid, dirty, words, stored, flush, store, argument);
+    let mut next = domains;
+    next.records[domain] = Domain {
+        hit: own.hit,
+        fill: own.fill,
+        counts: account::counted(answer, counts),
+    };
+    Stepped {
+        answer,
+        domains: next,
+    }
+}
+
+// A change of policy.
+fn policy_step(g: Geometry, tags: &mut [u64], valid: &mut [u16], dirty: &mut [u16], words: &mut [u64], domains: Domains, domain: usize, argument: u64) -> Stepped
+    requires { ⌜ Shaped g (tablesOf (now tags) (now valid) (now dirty) (now words)) ⌝ }
+    requires { ⌜ domain < 16 ⌝ }
+    ensures { λ r. ⌜ outcome r (tablesOf (now (tags .exit)) (now (valid .exit)) (now (dirty .exit)) (now (words .exit))) ≡ policyStep g domain argument (record { tables = tablesOf (now (tags .entry)) (now (valid .entry)) (now (dirty .entry)) (now (words .entry)); domains = domains }) ⌝ }
+{
+    let number = verdict::policy_refusal(g, domains, domain, argument);
+    if number != 0 {
+        return Stepped {
+            answer: Answer::Refused(number),
+            domains,
+        };
+    }
+    let own = domains.records[domain];
+    let old = Maps {
+        hit: own.hit,
+        fill: own.fill,
+    };
+    let new = verdict::new_maps(argument);
+    let drops = sets::sweep_sets(g, tags, valid, dirty, words, old, new);
+    let mut next = domains;
+    next.records[domain] = Domain {
+        hit: new.hit,
+        fill: new.fill,
+        counts: account::kept(own.counts, argument),
+    };
+    Stepped {
+        answer: Answer::Policy {
+            dropped: drops.dropped,
+            dirty: drops.dirty,
+        },
+        domains: next,
+    }
 }

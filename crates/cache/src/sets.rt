@@ -11,20 +11,20 @@ ghost use Rattle.row.specs.Calls.{rowOf, result};
 ghost use Rattle.cache.specs.Step.{tablesOf};
 ghost use Rattle.cache.specs.Inside.{Shaped, workOf, RowWork, workAt, dropsIn, Swept, AllSwept};
 
-// An access or a flush on a row: kind 2 is a store, and 3 a flush.
-fn on_row(tags: &mut [u64], lines: Lines, rule: usize, maps: Maps, kind: u8, tag: u64) -> Done
-    ensures { λ r. ⌜ result r (now (tags .exit)) ≡ workOf kind rule maps tag (rowOf (now (tags .entry)) lines) ⌝ }
+// An access or a flush on a row.
+fn on_row(tags: &mut [u64], lines: Lines, rule: usize, maps: Maps, flush: bool, store: bool, tag: u64) -> Done
+    ensures { λ r. ⌜ result r (now (tags .exit)) ≡ workOf flush store rule maps tag (rowOf (now (tags .entry)) lines) ⌝ }
 {
-    if kind == 3 {
+    if flush {
         return row::flush(tags, lines, maps, tag);
     }
-    row::access(tags, lines, rule, maps, tag, kind == 2)
+    row::access(tags, lines, rule, maps, tag, store)
 }
 
 // An access or a flush in the tables.
-pub fn use_set(g: Geometry, tags: &mut [u64], valid: &mut [u16], dirty: &mut [u16], words: &mut [u64], maps: Maps, kind: u8, address: u64) -> Answer
+pub fn use_set(g: Geometry, tags: &mut [u64], valid: &mut [u16], dirty: &mut [u16], words: &mut [u64], maps: Maps, flush: bool, store: bool, address: u64) -> Answer
     requires { ⌜ Shaped g (tablesOf (now tags) (now valid) (now dirty) (now words)) ⌝ }
-    ensures { λ r. ⌜ RowWork r (tablesOf (now (tags .exit)) (now (valid .exit)) (now (dirty .exit)) (now (words .exit))) (workAt g kind maps address (tablesOf (now (tags .entry)) (now (valid .entry)) (now (dirty .entry)) (now (words .entry)))) ⌝ }
+    ensures { λ r. ⌜ RowWork r (tablesOf (now (tags .exit)) (now (valid .exit)) (now (dirty .exit)) (now (words .exit))) (workAt g flush store maps address (tablesOf (now (tags .entry)) (now (valid .entry)) (now (dirty .entry)) (now (words .entry)))) ⌝ }
 {
     let found = place::place_of(g, address);
     let set = found.set;
@@ -36,7 +36,7 @@ pub fn use_set(g: Geometry, tags: &mut [u64], valid: &mut [u16], dirty: &mut [u1
         dirty: dirty[set],
         word: words[set],
     };
-    let done = on_row(&mut tags[start..stop], lines, g.rule, maps, kind, found.tag);
+    let done = on_row(&mut tags[start..stop], lines, g.rule, maps, flush, store, found.tag);
     let left = done.lines;
     valid[set] = left.valid;
     dirty[set] = left.dirty;

@@ -1,6 +1,5 @@
 -- `cache::sets::on_row` meets its contract.
 use borrow.Author.Needs.{needs}
-use borrow.Author.Tests.{eq-eqb, ne-eqb}
 use Rattle.cache.specs.Inside.{workOf}
 use Rattle.cache.proofs.sets.on_row.Statement.{statement}
 use Rattle.cache.proofs.sets.on_row.Tie as tie
@@ -13,7 +12,7 @@ same-length c = search needs
 
 returns : tie.Need-returns
 unfolding workOf
-returns c = rw (eq-eqb (c .before .before .before .before .args .kind) 3 (c .before .before .if1 .taken)) (c .flush .ensures)
+returns c = rw (c .before .before .if1 .taken) (c .flush .ensures)
 
 access-requires : tie.Need-access-requires
 access-requires c κs = search needs
@@ -23,7 +22,7 @@ same-length-2 c = search needs
 
 returns-2 : tie.Need-returns-2
 unfolding workOf
-returns-2 c = rw (ne-eqb (c .before .before .before .before .before .before .args .kind) 3 (c .before .before .before .before .if1 .left)) (c .before .before .access .ensures)
+returns-2 c = rw (c .before .before .before .before .if1 .left) (c .before .before .access .ensures)
 
 pub on-row-spec : {M : Type 1} → statement M
 on-row-spec =
