@@ -7,7 +7,7 @@ use native.Mathlib.Nat.{mod-lt}
 use native.Mathlib.Omega.{arith}
 use lib.Dec.{eqb, leb, ltb}
 use lib.ListN.{length, set}
-use borrow.Author.Tests.{eqb-true, ne-eqb, le-leb, lt-leb}
+use borrow.Author.Tests.{eqb-true, ne-eqb, leb-false}
 use Rattle.waymap.proofs.Booleans.{cases, and-left, and-right}
 use Rattle.replacement.specs.Rule.{Rule, ruleOf}
 use Rattle.replacement.specs.Calls.{isWays, inLimits}
@@ -23,11 +23,16 @@ use Rattle.cache.specs.Tables.{Tables, Lengths, lengths, sized, rowAt, p
 use Rattle.cache.specs.Domains.{domainOf, putDomain, policies, isFull, counted, noCounts}
 use Rattle.cache.specs.Refusal.{Kind, access, flush, policy, unknown, kindOf, newMaps, useRefusal, policyRefusal, refusalBy, refusal}
 use Rattle.cache.specs.Step.{State, Outcome, answers, onSet, rowEffect, useLine, newDomain, changePolicy, stepBy, decided, step}
-use Rattle.cache.specs.Inside.{Limited, Shaped, Work, RowWork, onRow, workOf, workAt, AllSwept, kindIs, lineWork, lineStep, policyStep}
+use Rattle.cache.specs.Inside.{Limited, Shaped, Work, RowWork, onRow, workOf, workAt, AllSwept, kindIs, earlyRefusal, lineWork, lineStep, policyStep}
 use Rattle.cache.specs.declared.Geometry.{Geometry}
+use denote.Enum.Declared.{tagOf as variantOf}
+use Rattle.cache.proofs.Asked.{the-type}
+use Rattle.cache.specs.declared.Asked.{Asked}
+use Rattle.cache.specs.declared.Asked.the-variants as AskedIs
 use Rattle.cache.specs.declared.Counts.{Counts}
 use Rattle.cache.specs.declared.Domain.{Domain}
 use Rattle.cache.specs.declared.Domains.{Domains}
+use Rattle.cache.proofs.GeometryLaws.{limited}
 use Rattle.cache.proofs.SetLaws.{row-long}
 
 -- ---- a verdict, and what is done without one
@@ -127,3 +132,76 @@ module _ (g : Geometry) (d arg : ℕ) (t : Tables) (ds : Domains) {n : ℕ} (q :
       ∙ decided-yes (changePolicy g d arg found) found z)
 
 -- ---- the step
+
+-- what is asked for, by its place among the code's kinds
+pub asked-policy : (q : Asked) → variantOf the-type q ≡ 1 → policy ≡ kindIs q
+asked-policy (AskedIs.Line flushes store) e = absurd (omega arith)
+asked-policy AskedIs.Policy e = refl
+asked-policy AskedIs.Unknown e = absurd (omega arith)
+
+pub asked-unknown : (q : Asked) → variantOf the-type q ≡ 2 → unknown ≡ kindIs q
+asked-unknown (AskedIs.Line flushes store) e = absurd (omega arith)
+asked-unknown AskedIs.Policy e = absurd (omega arith)
+asked-unknown AskedIs.Unknown e = refl
+
+-- what numbers 1, 2 and 3 let pass is shaped
+pub early-passed : (g : Geometry) (t : Tables) (d : ℕ) → earlyRefusal g (lengths t) d ≡ 0 → (Shaped g t) × (d < 16)
+unfolding earlyRefusal sized
+early-passed g t d e =
+    cases (within g)
+    (λ w. cases (sized g (lengths t))
+        (λ z. cases (leb 16 d)
+            (λ l. absurd (nonzero 2 (rw (w, z, l) at e)))
+            (λ l. (shaped w z, leb-false 16 d l)))
+        (λ z. absurd (nonzero 1 (rw (w, z) at e))))
+    (λ w. absurd (nonzero 0 (rw w at e)))
+  where
+    nonzero : (n : ℕ) → suc n ≡ 0 → ⊥
+    nonzero n q = omega arith
+    shaped : within g ≡ true → sized g (lengths t) ≡ true → Shaped g t
+    shaped w z =
+        let tags = eqb (length (t .tags)) (g .sets * g .ways) in
+        let valid = eqb (length (t .valid)) (g .sets) in
+        let dirty = eqb (length (t .dirty)) (g .sets) in
+        let words = eqb (length (t .words)) (g .sets) in
+        let three = and-left (tags && valid && dirty) words z in
+        let two = and-left (tags && valid) dirty three in
+        record {
+          limited = limited g w;
+          tags-long = eqb-true (length (t .tags)) (g .sets * g .ways) (and-left tags valid two);
+          valid-long = eqb-true (length (t .valid)) (g .sets) (and-right tags valid two);
+          dirty-long = eqb-true (length (t .dirty)) (g .sets) (and-right (tags && valid) dirty three);
+          words-long = eqb-true (length (t .words)) (g .sets) (and-right (tags && valid && dirty) words z) }
+
+module _ (g : Geometry) (d kind arg : ℕ) (s : State) where
+  -- the verdict is the early one, or that of the kind
+  verdict : refusal g (lengths (s .tables)) (policies (g .ways) (s .domains)) (domainOf (s .domains) d .counts) d kind arg
+      ≡ cond (eqb (earlyRefusal g (lengths (s .tables)) d) 0)
+        (refusalBy (kindOf kind) g (policies (g .ways) (s .domains)) (domainOf (s .domains) d .counts) d arg)
+        (earlyRefusal g (lengths (s .tables)) d)
+  unfolding refusal earlyRefusal
+  verdict =
+      cases (within g)
+      (λ w. cases (sized g (lengths (s .tables)))
+          (λ z. cases (leb 16 d) (λ l. rw (w, z, l)) (λ l. rw (w, z, l)))
+          (λ z. rw (w, z)))
+      (λ w. rw w)
+
+  pub step-early : {n : ℕ} → n ≡ earlyRefusal g (lengths (s .tables)) d → (n ≡ 0 → ⊥) → answers (Refused n) s ≡ step g d kind arg s
+  unfolding step
+  step-early {n} e z =
+      rw (verdict, ← e, ne-eqb n 0 z) (decided-no (stepBy (kindOf kind) g d arg s) s z)
+
+  module _ (passed : earlyRefusal g (lengths (s .tables)) d ≡ 0) where
+    pub step-line : (flushes store : Bool) → kindIs (AskedIs.Line flushes store) ≡ kindOf kind → lineStep g flushes store d arg s ≡ step g d kind arg s
+    unfolding step lineStep refusalBy stepBy
+    step-line true store k = rw (verdict, passed, ← k)
+    step-line false store k = rw (verdict, passed, ← k)
+
+    pub step-policy : policy ≡ kindOf kind → policyStep g d arg s ≡ step g d kind arg s
+    unfolding step policyStep refusalBy stepBy
+    step-policy k = rw (verdict, passed, ← k)
+
+    pub step-unknown : unknown ≡ kindOf kind → answers (Refused 4) s ≡ step g d kind arg s
+    unfolding step decided refusalBy stepBy
+    step-unknown k = rw (verdict, passed, ← k)

@@ -1,7 +1,8 @@
 -- What the crate's inner functions go by: they are called within the limits, on tables of their lengths.
 use mathlib.Core.Path.{_≡_}
-use mathlib.Core.Bool.{Bool, true, false, cond}
+use mathlib.Core.Bool.{Bool, true, false, cond, not}
 use Prim.Native.Nat.{ℕ, _+_, _*_, _≤_, _<_}
+use lib.Dec.{leb}
 use lib.ListN.{length}
 use Rattle.replacement.specs.Calls.{inLimits}
 use Rattle.replacement.specs.Rule.{Rule, ruleOf}
@@ -11,9 +12,9 @@ use Rattle.row.specs.Calls.{accessOf, flushOf}
 use Rattle.row.specs.declared.Maps.{Maps}
 use Rattle.row.specs.declared.Answer.{Answer}
 use Rattle.row.specs.declared.Answer.the-variants.{Hit, Fill, Evict, Pass, Flush, Absent, Policy, Refused}
-use Rattle.cache.specs.Geometry.{maxSets, setOf, tagOf}
-use Rattle.cache.specs.Tables.{Tables, rowAt, putRow, eachSet, total}
-use Rattle.cache.specs.Domains.{domainOf, policies}
+use Rattle.cache.specs.Geometry.{maxSets, within, setOf, tagOf}
+use Rattle.cache.specs.Tables.{Tables, Lengths, sized, rowAt, putRow, eachSet, total}
+use Rattle.cache.specs.Domains.{maxDomains, domainOf, policies}
 use Rattle.cache.specs.Refusal.{Kind, access, flush, policy, unknown, useRefusal, policyRefusal}
 use Rattle.cache.specs.Step.{State, Outcome, useLine, changePolicy, decided}
 use Rattle.cache.specs.declared.Geometry.{Geometry}
@@ -91,6 +92,10 @@ pub record AllSwept (g : Geometry) (old new : Maps) (n : ℕ) (before after : Ta
   pub tables-is : after ≡ eachSet (g .ways) n (cleaned (ruleOf (g .rule) (g .ways)) (asRead (g .ways) old) (asRead (g .ways) new)) before
   pub dropped-is : drops ≡ total (g .ways) n (dropped (asRead (g .ways) old) (asRead (g .ways) new)) before
   pub dirty-is : dirt ≡ total (g .ways) n (droppedDirty (asRead (g .ways) old) (asRead (g .ways) new)) before
+
+-- Numbers 1, 2 and 3, which go by the input alone; 0 for none.
+unfoldable pub earlyRefusal : Geometry → Lengths → ℕ → ℕ
+earlyRefusal g n d = cond (not (within g)) 1 (cond (not (sized g n)) 2 (cond (leb maxDomains d) 3 0))
 
 -- What the code's kinds are among document 01's.
 abbrev pub kindIs : Asked → Kind

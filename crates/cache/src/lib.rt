@@ -11,7 +11,7 @@ ghost use Prim.Native.Nat.{_<_};
 ghost use Rattle.cache.specs.Tables.{sized as sizedAs};
 ghost use Rattle.cache.specs.Refusal.{kindOf};
 ghost use Rattle.cache.specs.Step.{tablesOf, outcome, step as stepOf};
-ghost use Rattle.cache.specs.Inside.{Limited, Shaped, kindIs, lineStep, policyStep};
+ghost use Rattle.cache.specs.Inside.{Limited, Shaped, kindIs, earlyRefusal, lineStep, policyStep};
 
 // The numbers of sets and ways, and the replacement rule.
 pub struct Geometry {
@@ -93,6 +93,24 @@ fn sized(g: Geometry, tags: usize, valid: usize, dirty: usize, words: usize) -> 
     words == sets
 }
 
+// Numbers 1, 2 and 3; 0 for none.
+fn early(g: Geometry, tags: usize, valid: usize, dirty: usize, words: usize, domain: usize) -> usize
+    ensures { λ r. ⌜ r ≡ earlyRefusal g (record { tags = tags; valid = valid; dirty = dirty; words = words }) domain ⌝ }
+{
+    if place::within(g) {
+    } else {
+        return 1;
+    }
+    if sized(g, tags, valid, dirty, words) {
+    } else {
+        return 2;
+    }
+    if 16 <= domain {
+        return 3;
+    }
+    0
+}
+
 // An access or a flush.
 fn use_step(g: Geometry, tags: &mut [u64], valid: &mut [u16], dirty: &mut [u16], words: &mut [u64], domains: Domains, domain: usize, flush: bool, store: bool, argument: u64) -> Stepped
     requires { ⌜ Shaped g (tablesOf (now tags) (now valid) (now dirty) (now words)) ⌝ }
@@ -157,5 +175,29 @@ fn policy_step(g: Geometry, tags: &mut [u64], valid: &mut [u16], dirty: &mut [u1
             dirty: drops.dirty,
         },
         domains: next,
+    }
+}
+
+// One step of kind and argument by a domain, on tables and domains of any content.
+pub fn step(g: Geometry, tags: &mut [u64], valid: &mut [u16], dirty: &mut [u16], words: &mut [u64], domains: Domains, domain: usize, kind: u8, argument: u64) -> Stepped
+    ensures { λ r. ⌜ outcome r (tablesOf (now (tags .exit)) (now (valid .exit)) (now (dirty .exit)) (now (words .exit))) ≡ stepOf g domain kind argument (record { tables = tablesOf (now (tags .entry)) (now (valid .entry)) (now (dirty .entry)) (now (words .entry)); domains = domains }) ⌝ }
+{
+    let number = early(g, tags.len(), valid.len(), dirty.len(), words.len(), domain);
+    if number != 0 {
+        return Stepped {
+            answer: Answer::Refused(number),
+            domains,
+        };
+    }
+    let asked = kind_of(kind);
+    match asked {
+        Asked::Line { flush, store } => {
+            use_step(g, tags, valid, dirty, words, domains, domain, flush, store, argument)
+        }
+        Asked::Policy => policy_step(g, tags, valid, dirty, words, domains, domain, argument),
+        Asked::Unknown => Stepped {
+            answer: Answer::Refused(4),
+            domains,
+        },
     }
 }
