@@ -43,7 +43,8 @@ room c e =
       misses = eqb-false (c .misses) 4294967295 (one .1);
       evicted = eqb-false (c .evicted) 4294967295 (two .1);
       written = eqb-false (c .written) 4294967295 (three .1);
-      flushed = eqb-false (c .flushed) 4294967295 (four .1) }
+      flushed = eqb-false (c .flushed) 4294967295 (four .1);
+    }
 
 -- ---- the answers that bind nothing, by their place among the answers
 

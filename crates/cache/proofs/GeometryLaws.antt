@@ -46,17 +46,18 @@ power-test (suc n) x pos h =
         let twice : bitAnd x (x - 1) ≡ bitAnd (x / 2) (x / 2 - 1) * 2 = omega (arith, and-step x (x - 1), ap (λ (y : ℕ). bitAnd (x / 2) y) half) in
         rw (ne-eqb x 1 (λ q. omega arith))
         (cases (eqb (bitAnd (x / 2) (x / 2 - 1)) 0)
-          (λ t. eq-eqb (bitAnd x (x - 1)) 0 (omega (arith, eqb-true (bitAnd (x / 2) (x / 2 - 1)) 0 t)) ∙ sym t)
-          (λ t. ne-eqb (bitAnd x (x - 1)) 0 (λ q. eqb-false (bitAnd (x / 2) (x / 2 - 1)) 0 t (omega arith)) ∙ sym t)
+        (λ t. eq-eqb (bitAnd x (x - 1)) 0 (omega (arith, eqb-true (bitAnd (x / 2) (x / 2 - 1)) 0 t)) ∙ sym t)
+        (λ t. ne-eqb (bitAnd x (x - 1)) 0 (λ q. eqb-false (bitAnd (x / 2) (x / 2 - 1)) 0 t (omega arith)) ∙ sym t)
         ∙ ih ∙ any-ext n (λ k l. sym (eqb-double x k e)))
+
     odd : x % 2 ≡ 1 → eqb (bitAnd x (x - 1)) 0 ≡ (eqb x 1 || any n (λ (k : ℕ). eqb x (2 ^ suc k)))
     odd e =
         let half : (x - 1) / 2 ≡ x / 2 = omega arith in
         let same : bitAnd x (x - 1) ≡ x / 2 * 2 = omega (arith, and-step x (x - 1), ap (λ (y : ℕ). bitAnd (x / 2) y) half, and-self (x / 2)) in
         rw (any-none n {p = λ (k : ℕ). eqb x (2 ^ suc k)} (λ k l. eqb-odd x k e), or-false (eqb x 1))
         (cases (eqb x 1)
-          (λ t. rw t (eq-eqb (bitAnd x (x - 1)) 0 (omega (arith, eqb-true x 1 t))))
-          (λ t. rw t (ne-eqb (bitAnd x (x - 1)) 0 (λ q. eqb-false x 1 t (omega arith)))))
+        (λ t. rw t (eq-eqb (bitAnd x (x - 1)) 0 (omega (arith, eqb-true x 1 t))))
+        (λ t. rw t (ne-eqb (bitAnd x (x - 1)) 0 (λ q. eqb-false x 1 t (omega arith)))))
 
 -- ---- the limits
 
@@ -94,7 +95,8 @@ limited g e =
       some-set = positive (any-found 64 (λ (k : ℕ). eqb (g .sets) (2 ^ k)) (and-left (isPower (g .sets)) (leb (g .sets) maxSets) sets));
       most-sets = leb-true (g .sets) maxSets (and-right (isPower (g .sets)) (leb (g .sets) maxSets) sets);
       some-way = omega (arith, size .least);
-      most-ways = size .most }
+      most-ways = size .most;
+    }
   where
     positive : (k : ℕ) × (k < 64) × (eqb (g .sets) (2 ^ k) ≡ true) → 0 < g .sets
     positive r = omega (arith, eqb-true (g .sets) (2 ^ (r .0)) (r .2), pow-pos (r .0))

@@ -5,4 +5,5 @@ pub mod SetLaws
 pub mod SweepLaws
 pub mod RefusalLaws
 pub mod StepLaws
+pub mod FillLaws
 pub mod WorkedCases

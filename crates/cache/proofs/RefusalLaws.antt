@@ -66,8 +66,10 @@ good-fill W arg e = any-none 16 {p = λ (w : ℕ). bit (newMaps arg .fill) w && 
     maps =
         or-none (reaches W (newMaps arg .hit) || any 16 (λ (w : ℕ). bit (newMaps arg .fill) w && not (bit (newMaps arg .hit) w)))
         (not (eqb (arg / 4294967296) 0)) e .0
+
     both : (reaches W (newMaps arg .hit) ≡ false) × (any 16 (λ (w : ℕ). bit (newMaps arg .fill) w && not (bit (newMaps arg .hit) w)) ≡ false)
     both = or-none (reaches W (newMaps arg .hit)) (any 16 (λ (w : ℕ). bit (newMaps arg .fill) w && not (bit (newMaps arg .hit) w))) maps
+
     outside : (i : ℕ) → i < 16 → (bit (newMaps arg .fill) i && leb W i) ≡ false
     outside i k =
         inside (bit (newMaps arg .fill) i) (bit (newMaps arg .hit) i) (leb W i)
@@ -105,6 +107,7 @@ module _ (W rule fill other : ℕ) (limits : inLimits W rule ≡ true) (f : reac
       not-four (inr (inl e)) = omega arith
       not-four (inr (inr (inl e))) = omega arith
       not-four (inr (inr (inr e))) = omega arith
+
       say : (s : Bool) (q : Reply) → OneOf (0 ∷ 1 ∷ 2 ∷ 3 ∷ []) (tagOf the-type q) → answerOf q ≡ cond s 9 0 ∷ [] → false ≡ s
       say false q t e = refl
       say true (Way w) t e = let z : _≡_ {A = ℕ} 0 9 = cc in absurd (omega arith)

@@ -26,7 +26,7 @@ use Rattle.cache.proofs.GeometryLaws.{row-within}
 pub row-done : (W s start stop : ℕ) (f : Row → Effect) (tags valid dirty words : List ℕ) (d : Done) (ts : List ℕ) → start ≡ s * W → stop ≡ start + W
     → result d ts ≡ f (rowOf (take (stop - start) (drop start tags)) (record { valid = getD valid s 0; dirty = getD dirty s 0; word = getD words s 0 }))
     → RowWork (d .answer) (tablesOf (putMid start (stop - start) tags ts) (set valid s (d .lines .valid)) (set dirty s (d .lines .dirty)) (set words s (d .lines .word)))
-      (onRow W s f (tablesOf tags valid dirty words))
+    (onRow W s f (tablesOf tags valid dirty words))
 unfolding onRow rowAt putRow
 row-done W s start stop f tags valid dirty words d ts p q e =
     let wide : stop - start ≡ W = omega arith in
@@ -36,7 +36,9 @@ row-done W s start stop f tags valid dirty words d ts p q e =
         tags = take (s * W) tags ++ (same i .row .tags ++ drop W (drop (s * W) tags));
         valid = set valid s (same i .row .valid);
         dirty = set dirty s (same i .row .dirty);
-        words = set words s (same i .row .word) } })
+        words = set words s (same i .row .word);
+      };
+    })
   where
     same : result d ts ≡ f (rowAt W s (tablesOf tags valid dirty words))
     same = let wide : stop - start ≡ W = omega arith in rw (wide, p) at e
@@ -79,15 +81,19 @@ module _ (xs ys : List ℕ) (a k : ℕ) (room : a + k ≤ length xs) (long : len
     where
       over : ℕ
       over = b - (a + k)
+
       both-long : length (take a xs ++ ys) ≡ a + k
       both-long = length-append (take a xs) ys ∙ ap₂ _+_ head-long long
+
       at : a + k + over ≡ b
       at = omega arith
+
       beyond : drop b (take a xs ++ (ys ++ drop k (drop a xs))) ≡ drop over (drop k (drop a xs))
       beyond =
           ap (drop b) (sym (append-assoc (take a xs) ys (drop k (drop a xs))))
           ∙ ap (λ (n : ℕ). drop n ((take a xs ++ ys) ++ drop k (drop a xs))) (sym at ∙ ap (λ (n : ℕ). n + over) (sym both-long))
           ∙ drop-append-add (take a xs ++ ys) (drop k (drop a xs)) over
+
       direct : drop b xs ≡ drop over (drop k (drop a xs))
       direct = ap (λ (n : ℕ). drop n xs) (sym at) ∙ sym (drop-drop over (a + k) xs) ∙ ap (drop over) (sym (drop-drop k a xs))
 
@@ -112,7 +118,8 @@ module _ (g : Geometry) where
       tags-long = patched-long (t .tags) (r .tags) (s * g .ways) (g .ways) room long ∙ h .tags-long;
       valid-long = length-set (t .valid) s (r .valid) ∙ h .valid-long;
       dirty-long = length-set (t .dirty) s (r .dirty) ∙ h .dirty-long;
-      words-long = length-set (t .words) s (r .word) ∙ h .words-long }
+      words-long = length-set (t .words) s (r .word) ∙ h .words-long;
+    }
 
     pub row-put-same : rowAt (g .ways) s (putRow (g .ways) s r t) ≡ r
     unfolding rowAt putRow patched
@@ -120,7 +127,8 @@ module _ (g : Geometry) where
       tags = part-same (t .tags) (r .tags) (s * g .ways) (g .ways) room long i;
       valid = getD-set-same (t .valid) s (r .valid) 0 (rw (h .valid-long) k) i;
       dirty = getD-set-same (t .dirty) s (r .dirty) 0 (rw (h .dirty-long) k) i;
-      word = getD-set-same (t .words) s (r .word) 0 (rw (h .words-long) k) i }
+      word = getD-set-same (t .words) s (r .word) 0 (rw (h .words-long) k) i;
+    }
 
     pub row-put-other : (u : ℕ) → (u ≡ s → ⊥) → rowAt (g .ways) u (putRow (g .ways) s r t) ≡ rowAt (g .ways) u t
     unfolding rowAt putRow patched
@@ -128,7 +136,8 @@ module _ (g : Geometry) where
       tags = tags i;
       valid = getD-set-other (t .valid) s u (r .valid) 0 apart i;
       dirty = getD-set-other (t .dirty) s u (r .dirty) 0 apart i;
-      word = getD-set-other (t .words) s u (r .word) 0 apart i }
+      word = getD-set-other (t .words) s u (r .word) 0 apart i;
+    }
       where
         tags : take (g .ways) (drop (u * g .ways) (take (s * g .ways) (t .tags) ++ (r .tags ++ drop (g .ways) (drop (s * g .ways) (t .tags))))) ≡ take (g .ways) (drop (u * g .ways) (t .tags))
         tags =
@@ -161,10 +170,10 @@ module _ (g : Geometry) where
     each-row (suc n) le s k =
         cases (eqb s n)
         (λ q. rw (eqb-true s n q)
-            (row-put-same (eachSet (g .ways) n f t) (f (rowAt (g .ways) n t)) (each-shaped n (omega arith)) n le (keeps (rowAt (g .ways) n t) ∙ row-long h n le)))
+        (row-put-same (eachSet (g .ways) n f t) (f (rowAt (g .ways) n t)) (each-shaped n (omega arith)) n le (keeps (rowAt (g .ways) n t) ∙ row-long h n le)))
         (λ q. row-put-other (eachSet (g .ways) n f t) (f (rowAt (g .ways) n t)) (each-shaped n (omega arith)) n le
-            (keeps (rowAt (g .ways) n t) ∙ row-long h n le) s (eqb-false s n q)
-            ∙ each-row n (omega arith) s (omega (arith, eqb-false s n q)))
+        (keeps (rowAt (g .ways) n t) ∙ row-long h n le) s (eqb-false s n q)
+        ∙ each-row n (omega arith) s (omega (arith, eqb-false s n q)))
 
 -- a sum over the sets is no more than the largest part each
 pub total-le : (W n k : ℕ) (f : Row → ℕ) (t : Tables) → ((s : ℕ) → s < n → f (rowAt W s t) ≤ k) → total W n f t ≤ k * n

@@ -92,7 +92,7 @@ module _ (g : Geometry) (d : ℕ) (flushes store : Bool) (arg : ℕ) (t : Tables
 
     pub line-done : {a : Answer} {u : Tables} {c : Counts} → n ≡ 0 → RowWork a u (workAt g flushes store stored arg t) → c ≡ counted a (own .counts)
         → record { answer = answerOf a; state = record { tables = u; domains = record { records = set (ds .records) d (record { hit = own .hit; fill = own .fill; counts = c }) } } }
-          ≡ lineStep g flushes store d arg before
+        ≡ lineStep g flushes store d arg before
     unfolding lineStep workAt onRow useLine onSet putDomain effect
     line-done {a} {u} {c} z e f =
         rw (← number)
@@ -100,13 +100,17 @@ module _ (g : Geometry) (d : ℕ) (flushes store : Bool) (arg : ℕ) (t : Tables
           answer = answerOf (answer-is i);
           state = record {
             tables = tables-is i;
-            domains = record { records = set (ds .records) d (record { hit = own .hit; fill = own .fill; counts = counts-is i }) } } })
+            domains = record { records = set (ds .records) d (record { hit = own .hit; fill = own .fill; counts = counts-is i }) };
+          };
+        })
         ∙ decided-yes (useLine g (lineWork flushes (ruleOf (g .rule) (g .ways)) store) d arg before) before z)
       where
         answer-is : a ≡ effect .answer
         answer-is = ap (λ (w : Work). w .answer) e ∙ ap (λ (x : Effect). x .answer) effect-is
+
         tables-is : u ≡ putRow (g .ways) (setOf g arg) (effect .row) t
         tables-is = ap (λ (w : Work). w .tables) e ∙ ap (λ (x : Effect). putRow (g .ways) (setOf g arg) (x .row) t) effect-is
+
         counts-is : c ≡ counted (effect .answer) (own .counts)
         counts-is = f ∙ ap (λ (x : Answer). counted x (own .counts)) answer-is
 
@@ -124,7 +128,7 @@ module _ (g : Geometry) (d arg : ℕ) (t : Tables) (ds : Domains) {n : ℕ} (q :
       → AllSwept g (record { hit = domainOf ds d .hit; fill = domainOf ds d .fill }) new (g .sets) t u drops dirt
       → c ≡ cond (eqb arg 0) noCounts (domainOf ds d .counts)
       → record { answer = answerOf (Policy drops dirt); state = record { tables = u; domains = record { records = set (ds .records) d (record { hit = new .hit; fill = new .fill; counts = c }) } } }
-        ≡ policyStep g d arg found
+      ≡ policyStep g d arg found
   unfolding policyStep changePolicy newDomain putDomain policies
   policy-done {u} {drops} {dirt} {new} {c} z m e f =
       rw (← q)
@@ -150,14 +154,15 @@ unfolding earlyRefusal sized
 early-passed g t d e =
     cases (within g)
     (λ w. cases (sized g (lengths t))
-        (λ z. cases (leb 16 d)
-            (λ l. absurd (nonzero 2 (rw (w, z, l) at e)))
-            (λ l. (shaped w z, leb-false 16 d l)))
-        (λ z. absurd (nonzero 1 (rw (w, z) at e))))
+    (λ z. cases (leb 16 d)
+    (λ l. absurd (nonzero 2 (rw (w, z, l) at e)))
+    (λ l. (shaped w z, leb-false 16 d l)))
+    (λ z. absurd (nonzero 1 (rw (w, z) at e))))
     (λ w. absurd (nonzero 0 (rw w at e)))
   where
     nonzero : (n : ℕ) → suc n ≡ 0 → ⊥
     nonzero n q = omega arith
+
     shaped : within g ≡ true → sized g (lengths t) ≡ true → Shaped g t
     shaped w z =
         let tags = eqb (length (t .tags)) (g .sets * g .ways) in
@@ -171,20 +176,21 @@ early-passed g t d e =
           tags-long = eqb-true (length (t .tags)) (g .sets * g .ways) (and-left tags valid two);
           valid-long = eqb-true (length (t .valid)) (g .sets) (and-right tags valid two);
           dirty-long = eqb-true (length (t .dirty)) (g .sets) (and-right (tags && valid) dirty three);
-          words-long = eqb-true (length (t .words)) (g .sets) (and-right (tags && valid && dirty) words z) }
+          words-long = eqb-true (length (t .words)) (g .sets) (and-right (tags && valid && dirty) words z);
+        }
 
 module _ (g : Geometry) (d kind arg : ℕ) (s : State) where
   -- the verdict is the early one, or that of the kind
   verdict : refusal g (lengths (s .tables)) (policies (g .ways) (s .domains)) (domainOf (s .domains) d .counts) d kind arg
       ≡ cond (eqb (earlyRefusal g (lengths (s .tables)) d) 0)
-        (refusalBy (kindOf kind) g (policies (g .ways) (s .domains)) (domainOf (s .domains) d .counts) d arg)
-        (earlyRefusal g (lengths (s .tables)) d)
+      (refusalBy (kindOf kind) g (policies (g .ways) (s .domains)) (domainOf (s .domains) d .counts) d arg)
+      (earlyRefusal g (lengths (s .tables)) d)
   unfolding refusal earlyRefusal
   verdict =
       cases (within g)
       (λ w. cases (sized g (lengths (s .tables)))
-          (λ z. cases (leb 16 d) (λ l. rw (w, z, l)) (λ l. rw (w, z, l)))
-          (λ z. rw (w, z)))
+      (λ z. cases (leb 16 d) (λ l. rw (w, z, l)) (λ l. rw (w, z, l)))
+      (λ z. rw (w, z)))
       (λ w. rw w)
 
   pub step-early : {n : ℕ} → n ≡ earlyRefusal g (lengths (s .tables)) d → (n ≡ 0 → ⊥) → answers (Refused n) s ≡ step g d kind arg s

@@ -77,11 +77,12 @@ module _ (g : Geometry) (old new : Maps) where
     unfolding onRow clean
     swept-is {a} {u} {d} e q =
         let drops : d ≡ dropsIn (clean (ruleOf (g .rule) (g .ways)) was next (rowAt (g .ways) s t) .answer) =
-            q ∙ ap dropsIn (ap (λ (w : Work). w .answer) e ∙ ap (λ (x : Effect). x .answer) at) in
+        q ∙ ap dropsIn (ap (λ (w : Work). w .answer) e ∙ ap (λ (x : Effect). x .answer) at) in
         record {
           tables-is = ap (λ (w : Work). w .tables) e ∙ ap (λ (x : Effect). putRow (g .ways) s (x .row) t) at;
           dropped-is = ap (λ (x : Drops). x .dropped) drops;
-          dirty-is = ap (λ (x : Drops). x .dirty) drops }
+          dirty-is = ap (λ (x : Drops). x .dirty) drops;
+        }
 
 -- ---- set after set
 
@@ -100,10 +101,11 @@ begin g old new t h = record {
   shaped = h;
   swept = record { tables-is = refl; dropped-is = refl; dirty-is = refl };
   few = omega arith;
-  few-dirty = omega arith }
+  few-dirty = omega arith;
+}
 
 module _ (g : Geometry) (old new : Maps) (before after : Tables) (h : Shaped g before) {drops dirt s : ℕ}
-  (l : Sweeping g old new before after drops dirt s) (k : s < g .sets) where
+    (l : Sweeping g old new before after drops dirt s) (k : s < g .sets) where
   -- the row that is cleaned is the one that was there before
   row-is : rowAt (g .ways) s after ≡ rowAt (g .ways) s before
   row-is =
@@ -125,12 +127,15 @@ module _ (g : Geometry) (old new : Maps) (before after : Tables) (h : Shaped g b
     swept = rw (add-one s) (record {
       tables-is = e .tables-is ∙ ap₂ (λ (r : Row) (t : Tables). putRow (g .ways) s (swept g old new r) t) row-is (l .swept .tables-is);
       dropped-is = ap₂ _+_ (l .swept .dropped-is) (drops-is);
-      dirty-is = ap₂ _+_ (l .swept .dirty-is) (dirt-is) });
+      dirty-is = ap₂ _+_ (l .swept .dirty-is) (dirt-is);
+    });
     few = omega (arith, l .few, drops-is, below (λ (w : ℕ). moved (was g old new) (next g old new) w && bit (rowAt (g .ways) s before .valid) w));
-    few-dirty = omega (arith, l .few-dirty, dirt-is, below (λ (w : ℕ). moved (was g old new) (next g old new) w && bit (rowAt (g .ways) s before .valid) w && bit (rowAt (g .ways) s before .dirty) w)) }
+    few-dirty = omega (arith, l .few-dirty, dirt-is, below (λ (w : ℕ). moved (was g old new) (next g old new) w && bit (rowAt (g .ways) s before .valid) w && bit (rowAt (g .ways) s before .dirty) w));
+  }
     where
       drops-is : d .dropped ≡ dropped (was g old new) (next g old new) (rowAt (g .ways) s before)
       drops-is = e .dropped-is ∙ ap (dropped (was g old new) (next g old new)) row-is
+
       dirt-is : d .dirty ≡ droppedDirty (was g old new) (next g old new) (rowAt (g .ways) s before)
       dirt-is = e .dirty-is ∙ ap (droppedDirty (was g old new) (next g old new)) row-is
 

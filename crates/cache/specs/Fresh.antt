@@ -1,5 +1,5 @@
 -- A fresh cache: "all zero, except that under NRU the low W bits of each replacement word are one. All policies and counts are zero."
-use mathlib.Core.Bool.{cond}
+use mathlib.Core.Bool.{cond, not}
 use Prim.Native.Nat.{ℕ, _*_}
 use lib.ListN.{replicate}
 use Rattle.replacement.specs.Rule.{Rule, ruleOf}
@@ -30,8 +30,9 @@ pub record Made : Type 0 where
   pub number : ℕ
   pub tables : Tables
 
+abbrev pub madeOf : ℕ → Tables → Made
+madeOf n t = record { number = n; tables = t }
+
 unfoldable pub freshOf : Geometry → Tables → Made
 freshOf g t =
-    cond (within g)
-    (cond (sized g (lengths t)) (record { number = 0; tables = freshTables g }) (record { number = 2; tables = t }))
-    (record { number = 1; tables = t })
+    cond (not (within g)) (madeOf 1 t) (cond (not (sized g (lengths t))) (madeOf 2 t) (madeOf 0 (freshTables g)))

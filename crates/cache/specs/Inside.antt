@@ -23,7 +23,6 @@ use Rattle.cache.specs.declared.Asked.the-variants as AskedIs
 use Rattle.cache.specs.declared.place.Place.{Place}
 use Rattle.cache.specs.declared.sets.Drops.{Drops}
 
-
 -- A geometry within the limits.
 pub record Limited (g : Geometry) : Type 0 where
   pub limits : inLimits (g .ways) (g .rule) ≡ true

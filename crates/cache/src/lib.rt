@@ -1,5 +1,6 @@
 // A set-associative cache whose domains each hold their own ways.
 mod account;
+mod fresh;
 mod place;
 mod sets;
 mod verdict;
@@ -11,6 +12,7 @@ ghost use Prim.Native.Nat.{_<_};
 ghost use Rattle.cache.specs.Tables.{sized as sizedAs};
 ghost use Rattle.cache.specs.Refusal.{kindOf};
 ghost use Rattle.cache.specs.Step.{tablesOf, outcome, step as stepOf};
+ghost use Rattle.cache.specs.Fresh.{freshDomains, madeOf, freshOf};
 ghost use Rattle.cache.specs.Inside.{Limited, Shaped, kindIs, earlyRefusal, lineStep, policyStep};
 
 // The numbers of sets and ways, and the replacement rule.
@@ -97,12 +99,10 @@ fn sized(g: Geometry, tags: usize, valid: usize, dirty: usize, words: usize) -> 
 fn early(g: Geometry, tags: usize, valid: usize, dirty: usize, words: usize, domain: usize) -> usize
     ensures { λ r. ⌜ r ≡ earlyRefusal g (record { tags = tags; valid = valid; dirty = dirty; words = words }) domain ⌝ }
 {
-    if place::within(g) {
-    } else {
+    if place::within(g) {} else {
         return 1;
     }
-    if sized(g, tags, valid, dirty, words) {
-    } else {
+    if sized(g, tags, valid, dirty, words) {} else {
         return 2;
     }
     if 16 <= domain {
@@ -112,7 +112,18 @@ fn early(g: Geometry, tags: usize, valid: usize, dirty: usize, words: usize, dom
 }
 
 // An access or a flush.
-fn use_step(g: Geometry, tags: &mut [u64], valid: &mut [u16], dirty: &mut [u16], words: &mut [u64], domains: Domains, domain: usize, flush: bool, store: bool, argument: u64) -> Stepped
+fn use_step(
+    g: Geometry,
+    tags: &mut [u64],
+    valid: &mut [u16],
+    dirty: &mut [u16],
+    words: &mut [u64],
+    domains: Domains,
+    domain: usize,
+    flush: bool,
+    store: bool,
+    argument: u64,
+) -> Stepped
     requires { ⌜ Shaped g (tablesOf (now tags) (now valid) (now dirty) (now words)) ⌝ }
     requires { ⌜ domain < 16 ⌝ }
     ensures { λ r. ⌜ outcome r (tablesOf (now (tags .exit)) (now (valid .exit)) (now (dirty .exit)) (now (words .exit))) ≡ lineStep g flush store domain argument (record { tables = tablesOf (now (tags .entry)) (now (valid .entry)) (now (dirty .entry)) (now (words .entry)); domains = domains }) ⌝ }
@@ -144,7 +155,16 @@ fn use_step(g: Geometry, tags: &mut [u64], valid: &mut [u16], dirty: &mut [u16],
 }
 
 // A change of policy.
-fn policy_step(g: Geometry, tags: &mut [u64], valid: &mut [u16], dirty: &mut [u16], words: &mut [u64], domains: Domains, domain: usize, argument: u64) -> Stepped
+fn policy_step(
+    g: Geometry,
+    tags: &mut [u64],
+    valid: &mut [u16],
+    dirty: &mut [u16],
+    words: &mut [u64],
+    domains: Domains,
+    domain: usize,
+    argument: u64,
+) -> Stepped
     requires { ⌜ Shaped g (tablesOf (now tags) (now valid) (now dirty) (now words)) ⌝ }
     requires { ⌜ domain < 16 ⌝ }
     ensures { λ r. ⌜ outcome r (tablesOf (now (tags .exit)) (now (valid .exit)) (now (dirty .exit)) (now (words .exit))) ≡ policyStep g domain argument (record { tables = tablesOf (now (tags .entry)) (now (valid .entry)) (now (dirty .entry)) (now (words .entry)); domains = domains }) ⌝ }
@@ -179,7 +199,17 @@ fn policy_step(g: Geometry, tags: &mut [u64], valid: &mut [u16], dirty: &mut [u1
 }
 
 // One step of kind and argument by a domain, on tables and domains of any content.
-pub fn step(g: Geometry, tags: &mut [u64], valid: &mut [u16], dirty: &mut [u16], words: &mut [u64], domains: Domains, domain: usize, kind: u8, argument: u64) -> Stepped
+pub fn step(
+    g: Geometry,
+    tags: &mut [u64],
+    valid: &mut [u16],
+    dirty: &mut [u16],
+    words: &mut [u64],
+    domains: Domains,
+    domain: usize,
+    kind: u8,
+    argument: u64,
+) -> Stepped
     ensures { λ r. ⌜ outcome r (tablesOf (now (tags .exit)) (now (valid .exit)) (now (dirty .exit)) (now (words .exit))) ≡ stepOf g domain kind argument (record { tables = tablesOf (now (tags .entry)) (now (valid .entry)) (now (dirty .entry)) (now (words .entry)); domains = domains }) ⌝ }
 {
     let number = early(g, tags.len(), valid.len(), dirty.len(), words.len(), domain);
@@ -192,12 +222,65 @@ pub fn step(g: Geometry, tags: &mut [u64], valid: &mut [u16], dirty: &mut [u16],
     let asked = kind_of(kind);
     match asked {
         Asked::Line { flush, store } => {
-            use_step(g, tags, valid, dirty, words, domains, domain, flush, store, argument)
+            use_step(
+                g,
+                tags,
+                valid,
+                dirty,
+                words,
+                domains,
+                domain,
+                flush,
+                store,
+                argument,
+            )
         }
         Asked::Policy => policy_step(g, tags, valid, dirty, words, domains, domain, argument),
         Asked::Unknown => Stepped {
             answer: Answer::Refused(4),
             domains,
         },
+    }
+}
+
+// The tables become those of a fresh cache. The answer is 0, or 1 or 2 as for a step, and then nothing changes.
+pub fn fresh_tables(
+    g: Geometry,
+    tags: &mut [u64],
+    valid: &mut [u16],
+    dirty: &mut [u16],
+    words: &mut [u64],
+) -> usize
+    ensures { λ r. ⌜ madeOf r (tablesOf (now (tags .exit)) (now (valid .exit)) (now (dirty .exit)) (now (words .exit))) ≡ freshOf g (tablesOf (now (tags .entry)) (now (valid .entry)) (now (dirty .entry)) (now (words .entry))) ⌝ }
+{
+    let number = early(g, tags.len(), valid.len(), dirty.len(), words.len(), 0);
+    if number != 0 {
+        return number;
+    }
+    let made = replacement::fresh(g.ways, g.rule);
+    fresh::fill_words(tags, 0);
+    fresh::clear_maps(valid);
+    fresh::clear_maps(dirty);
+    fresh::fill_words(words, made.word);
+    0
+}
+
+// Sixteen domains without ways or counts.
+pub fn fresh_domains() -> Domains
+    ensures { λ r. ⌜ r ≡ freshDomains ⌝ }
+{
+    let none = Domain {
+        hit: 0,
+        fill: 0,
+        counts: Counts {
+            hits: 0,
+            misses: 0,
+            evicted: 0,
+            written: 0,
+            flushed: 0,
+        },
+    };
+    Domains {
+        records: [none; 16],
     }
 }

@@ -12,7 +12,15 @@ ghost use Rattle.cache.specs.Step.{tablesOf};
 ghost use Rattle.cache.specs.Inside.{Shaped, workOf, RowWork, workAt, dropsIn, Swept, AllSwept};
 
 // An access or a flush on a row.
-fn on_row(tags: &mut [u64], lines: Lines, rule: usize, maps: Maps, flush: bool, store: bool, tag: u64) -> Done
+fn on_row(
+    tags: &mut [u64],
+    lines: Lines,
+    rule: usize,
+    maps: Maps,
+    flush: bool,
+    store: bool,
+    tag: u64,
+) -> Done
     ensures { λ r. ⌜ result r (now (tags .exit)) ≡ workOf flush store rule maps tag (rowOf (now (tags .entry)) lines) ⌝ }
 {
     if flush {
@@ -22,7 +30,17 @@ fn on_row(tags: &mut [u64], lines: Lines, rule: usize, maps: Maps, flush: bool, 
 }
 
 // An access or a flush in the tables.
-pub fn use_set(g: Geometry, tags: &mut [u64], valid: &mut [u16], dirty: &mut [u16], words: &mut [u64], maps: Maps, flush: bool, store: bool, address: u64) -> Answer
+pub fn use_set(
+    g: Geometry,
+    tags: &mut [u64],
+    valid: &mut [u16],
+    dirty: &mut [u16],
+    words: &mut [u64],
+    maps: Maps,
+    flush: bool,
+    store: bool,
+    address: u64,
+) -> Answer
     requires { ⌜ Shaped g (tablesOf (now tags) (now valid) (now dirty) (now words)) ⌝ }
     ensures { λ r. ⌜ RowWork r (tablesOf (now (tags .exit)) (now (valid .exit)) (now (dirty .exit)) (now (words .exit))) (workAt g flush store maps address (tablesOf (now (tags .entry)) (now (valid .entry)) (now (dirty .entry)) (now (words .entry)))) ⌝ }
 {
@@ -36,7 +54,15 @@ pub fn use_set(g: Geometry, tags: &mut [u64], valid: &mut [u16], dirty: &mut [u1
         dirty: dirty[set],
         word: words[set],
     };
-    let done = on_row(&mut tags[start..stop], lines, g.rule, maps, flush, store, found.tag);
+    let done = on_row(
+        &mut tags[start..stop],
+        lines,
+        g.rule,
+        maps,
+        flush,
+        store,
+        found.tag,
+    );
     let left = done.lines;
     valid[set] = left.valid;
     dirty[set] = left.dirty;
@@ -63,7 +89,16 @@ fn drops_of(answer: Answer) -> Drops
 }
 
 // The cleaning of one set in the tables.
-fn sweep_set(g: Geometry, tags: &mut [u64], valid: &mut [u16], dirty: &mut [u16], words: &mut [u64], old: Maps, new: Maps, set: usize) -> Drops
+fn sweep_set(
+    g: Geometry,
+    tags: &mut [u64],
+    valid: &mut [u16],
+    dirty: &mut [u16],
+    words: &mut [u64],
+    old: Maps,
+    new: Maps,
+    set: usize,
+) -> Drops
     requires { ⌜ Shaped g (tablesOf (now tags) (now valid) (now dirty) (now words)) ⌝ }
     requires { ⌜ set < g .sets ⌝ }
     ensures { λ r. ⌜ Swept g old new set (tablesOf (now (tags .entry)) (now (valid .entry)) (now (dirty .entry)) (now (words .entry))) (tablesOf (now (tags .exit)) (now (valid .exit)) (now (dirty .exit)) (now (words .exit))) r ⌝ }
@@ -86,7 +121,15 @@ fn sweep_set(g: Geometry, tags: &mut [u64], valid: &mut [u16], dirty: &mut [u16]
 }
 
 // The cleaning of every set.
-pub fn sweep_sets(g: Geometry, tags: &mut [u64], valid: &mut [u16], dirty: &mut [u16], words: &mut [u64], old: Maps, new: Maps) -> Drops
+pub fn sweep_sets(
+    g: Geometry,
+    tags: &mut [u64],
+    valid: &mut [u16],
+    dirty: &mut [u16],
+    words: &mut [u64],
+    old: Maps,
+    new: Maps,
+) -> Drops
     requires { ⌜ Shaped g (tablesOf (now tags) (now valid) (now dirty) (now words)) ⌝ }
     ensures { λ r. ⌜ AllSwept g old new (g .sets) (tablesOf (now (tags .entry)) (now (valid .entry)) (now (dirty .entry)) (now (words .entry))) (tablesOf (now (tags .exit)) (now (valid .exit)) (now (dirty .exit)) (now (words .exit))) (r .dropped) (r .dirty) ⌝ }
 {

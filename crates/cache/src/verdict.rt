@@ -45,8 +45,7 @@ fn bad_argument(ways: usize, argument: u64) -> bool
     ensures { λ r. ⌜ r ≡ badArgument ways argument ⌝ }
 {
     let new = new_maps(argument);
-    if waymap::fits(new.hit, ways) {
-    } else {
+    if waymap::fits(new.hit, ways) {} else {
         return true;
     }
     if new.fill & !new.hit != 0 {

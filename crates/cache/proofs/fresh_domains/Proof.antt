@@ -1,0 +1,12 @@
+-- `cache::fresh_domains` meets its contract.
+use mathlib.Core.Path.{refl}
+use Rattle.cache.specs.Fresh.{freshDomains}
+use Rattle.cache.proofs.fresh_domains.Statement.{statement}
+use Rattle.cache.proofs.fresh_domains.Tie as tie
+
+returns : tie.Need-returns
+unfolding freshDomains
+returns c = refl
+
+pub fresh-domains-spec : {M : Type 1} → statement M
+fresh-domains-spec = tie.close (tie.spec returns)
