@@ -1,4 +1,4 @@
--- Case A of document 01, its nine answers and both domains' counts, and cases F and G, by computing.
+-- Cases A, F and G of document 01, by computing.
 use mathlib.Core.Path.{_≡_, refl}
 use mathlib.Core.Bool.{xor}
 use mathlib.Core.List.{List, [], _∷_}
@@ -7,50 +7,50 @@ use Rattle.waymap.specs.Bits.{bit, word, any, lowest, count, put, reaches}
 use Rattle.replacement.specs.Tree as Tree
 use Rattle.replacement.specs.Calls.{isWays, inLimits}
 use Rattle.row.specs.Row as Row
-use Rattle.row.specs.Row.{asRead}
 use Rattle.cache.specs.Geometry.{isPower, within, setOf, tagOf}
 use Rattle.cache.specs.Tables.{sized, rowAt, putRow, eachSet, total}
 use Rattle.cache.specs.Domains.{domainOf, putDomain, policies, isFull, counted}
 use Rattle.cache.specs.Refusal.{kindOf, newMaps, badArgument, sharesWay, sharesNode, useRefusal, policyRefusal, refusalBy, refusal}
-use Rattle.cache.specs.Step.{State, Outcome, onSet, rowEffect, useLine, newDomain, changePolicy, stepBy, decided, step}
+use Rattle.cache.specs.Step.{State, onSet, rowEffect, useLine, newDomain, changePolicy, stepBy, decided, step}
+use Rattle.cache.specs.Run.{Command, answersOf, finally}
 use Rattle.cache.specs.Fresh.{freshTables, freshDomains, fresh}
 use Rattle.cache.specs.declared.Geometry.{Geometry}
 use Rattle.cache.specs.declared.Counts.{Counts}
 
--- a step: its domain, kind and argument
-record Command : Type 0 where
-  domain : ℕ
-  kind : ℕ
-  argument : ℕ
-
-does : ℕ → ℕ → ℕ → Command
+abbrev pub does : ℕ → ℕ → ℕ → Command
 does d k a = record { domain = d; kind = k; argument = a }
 
--- the answers of a list of steps, each from what the one before it left, and what the last one left
-record Listing : Type 0 where
-  answers : List (List ℕ)
-  left : State
-
-run : Geometry → List Command → State → Listing
-run g [] s = record { answers = []; left = s }
-run g (c ∷ cs) s =
-    let o = step g (c .domain) (c .kind) (c .argument) s in
-    let rest = run g cs (o .state) in
-    record { answers = o .answer ∷ rest .answers; left = rest .left }
-
-small : Geometry
-small = record { sets = 1; ways = 4; rule = 0 }
-
 -- the argument of a policy with both maps m
-both : ℕ → ℕ
+abbrev pub both : ℕ → ℕ
 both m = m + 65536 * m
 
-trace : List Command
-trace =
+-- A: "1 set, 4 ways, rule 0, 9 steps"
+abbrev pub geometryA : Geometry
+geometryA = record { sets = 1; ways = 4; rule = 0 }
+
+abbrev pub stepsA : List Command
+stepsA =
     does 0 16 (both 3) ∷ does 1 16 (both 12) ∷ does 0 2 0 ∷ does 0 1 64 ∷ does 1 1 0 ∷ does 0 1 128 ∷ does 0 3 64 ∷ does 2 1 0 ∷ does 0 1 128 ∷ []
 
--- policy 0 0, policy 0 0, fill 0, fill 1, fill 2, evict 0 0 1, flush 1 0, refused 6, hit 0
-case-a : run small trace (fresh small) .answers
-    ≡ (6 ∷ 0 ∷ 0 ∷ []) ∷ (6 ∷ 0 ∷ 0 ∷ []) ∷ (1 ∷ 0 ∷ []) ∷ (1 ∷ 1 ∷ []) ∷ (1 ∷ 2 ∷ []) ∷ (2 ∷ 0 ∷ 0 ∷ 1 ∷ []) ∷ (4 ∷ 1 ∷ 0 ∷ []) ∷ (7 ∷ 6 ∷ []) ∷ (0 ∷ 0 ∷ []) ∷ []
-unfolding run does trace both small step decided stepBy changePolicy newDomain useLine rowEffect onSet refusal refusalBy policyRefusal useRefusal sharesNode sharesWay badArgument newMaps kindOf counted isFull policies putDomain domainOf total eachSet putRow rowAt sized tagOf setOf within isPower freshTables freshDomains fresh isWays inLimits Row.asRead Row.matches Row.isHit Row.hitWay Row.hitAt Row.filled Row.vacant Row.fillAt Row.evictAt Row.accessBy Row.access Row.flushAt Row.flush Row.moved Row.without Row.wiped Row.dropped Row.droppedDirty Row.cleaned bit word any lowest count put reaches xor Tree.passes Tree.under Tree.holds Tree.free Tree.forcedRight Tree.walk Tree.walked Tree.victim Tree.touch Tree.reset Tree.shares
-case-a = refl
+-- policy 0 0, policy 0 0, fill 0, fill 1, fill 2, evict 0 0 1, flush 1 0, refused 6, hit 0; "domain 0 1 3 1 1 1", "domain 1 0 1 0 0 0"
+pub record CaseA : Type 0 where
+  pub answers : answersOf geometryA stepsA (fresh geometryA)
+      ≡ (6 ∷ 0 ∷ 0 ∷ []) ∷ (6 ∷ 0 ∷ 0 ∷ []) ∷ (1 ∷ 0 ∷ []) ∷ (1 ∷ 1 ∷ []) ∷ (1 ∷ 2 ∷ []) ∷ (2 ∷ 0 ∷ 0 ∷ 1 ∷ []) ∷ (4 ∷ 1 ∷ 0 ∷ []) ∷ (7 ∷ 6 ∷ []) ∷ (0 ∷ 0 ∷ []) ∷ []
+  pub counts-0 : domainOf (finally geometryA stepsA (fresh geometryA) .domains) 0 .counts ≡ record { hits = 1; misses = 3; evicted = 1; written = 1; flushed = 1 }
+  pub counts-1 : domainOf (finally geometryA stepsA (fresh geometryA) .domains) 1 .counts ≡ record { hits = 0; misses = 1; evicted = 0; written = 0; flushed = 0 }
+
+-- for 8 ways, F: "maps 5 and 10 share free node 1: refused 9"; G: "maps 3 and 12 are accepted"
+abbrev pub eightWays : Geometry
+eightWays = record { sets = 1; ways = 8; rule = 0 }
+
+pub record CaseFG : Type 0 where
+  pub f : answersOf eightWays (does 0 16 (both 5) ∷ does 1 16 (both 10) ∷ []) (fresh eightWays) ≡ (6 ∷ 0 ∷ 0 ∷ []) ∷ (7 ∷ 9 ∷ []) ∷ []
+  pub g : answersOf eightWays (does 0 16 (both 3) ∷ does 1 16 (both 12) ∷ []) (fresh eightWays) ≡ (6 ∷ 0 ∷ 0 ∷ []) ∷ (6 ∷ 0 ∷ 0 ∷ []) ∷ []
+
+pub case-a : CaseA
+unfolding answersOf finally step decided stepBy changePolicy newDomain useLine rowEffect onSet refusal refusalBy policyRefusal useRefusal sharesNode sharesWay badArgument newMaps kindOf counted isFull policies putDomain domainOf total eachSet putRow rowAt sized tagOf setOf within isPower freshTables freshDomains fresh isWays inLimits Row.asRead Row.matches Row.isHit Row.hitWay Row.hitAt Row.filled Row.vacant Row.fillAt Row.evictAt Row.accessBy Row.access Row.flushAt Row.flush Row.moved Row.without Row.wiped Row.dropped Row.droppedDirty Row.cleaned bit word any lowest count put reaches xor Tree.passes Tree.under Tree.holds Tree.free Tree.forcedRight Tree.walk Tree.walked Tree.victim Tree.touch Tree.reset Tree.shares
+case-a = record { answers = refl; counts-0 = refl; counts-1 = refl }
+
+pub case-f-g : CaseFG
+unfolding answersOf finally step decided stepBy changePolicy newDomain useLine rowEffect onSet refusal refusalBy policyRefusal useRefusal sharesNode sharesWay badArgument newMaps kindOf counted isFull policies putDomain domainOf total eachSet putRow rowAt sized tagOf setOf within isPower freshTables freshDomains fresh isWays inLimits Row.asRead Row.matches Row.isHit Row.hitWay Row.hitAt Row.filled Row.vacant Row.fillAt Row.evictAt Row.accessBy Row.access Row.flushAt Row.flush Row.moved Row.without Row.wiped Row.dropped Row.droppedDirty Row.cleaned bit word any lowest count put reaches xor Tree.passes Tree.under Tree.holds Tree.free Tree.forcedRight Tree.walk Tree.walked Tree.victim Tree.touch Tree.reset Tree.shares
+case-f-g = record { f = refl; g = refl }

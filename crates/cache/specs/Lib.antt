@@ -4,5 +4,6 @@ pub mod Tables
 pub mod Domains
 pub mod Refusal
 pub mod Step
+pub mod Run
 pub mod Fresh
 pub mod Inside

@@ -1,0 +1,23 @@
+-- A run: steps one after another, "each later step gets those that the step before it left, turned down or not".
+use mathlib.Core.List.{List, [], _∷_}
+use Prim.Native.Nat.{ℕ}
+use Rattle.cache.specs.Step.{State, Outcome, step}
+use Rattle.cache.specs.declared.Geometry.{Geometry}
+
+-- A step to take: the domain that it names, its kind and its argument, of any numbers.
+pub record Command : Type 0 where
+  pub domain : ℕ
+  pub kind : ℕ
+  pub argument : ℕ
+
+abbrev pub stepOn : Geometry → Command → State → Outcome
+stepOn g c s = step g (c .domain) (c .kind) (c .argument) s
+
+-- The answers of a list of steps, and the state after the last.
+unfoldable pub answersOf : Geometry → List Command → State → List (List ℕ)
+answersOf g [] s = []
+answersOf g (c ∷ cs) s = stepOn g c s .answer ∷ answersOf g cs (stepOn g c s .state)
+
+unfoldable pub finally : Geometry → List Command → State → State
+finally g [] s = s
+finally g (c ∷ cs) s = finally g cs (stepOn g c s .state)
