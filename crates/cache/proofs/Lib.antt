@@ -4,6 +4,7 @@ pub mod CountLaws
 pub mod SetLaws
 pub mod SweepLaws
 pub mod RefusalLaws
+pub mod DomainLaws
 pub mod StepLaws
 pub mod FillLaws
 pub mod WorkedCases

@@ -15,7 +15,7 @@ use Rattle.waymap.proofs.WayLaws.{count-le}
 use Rattle.replacement.specs.Rule.{Rule, ruleOf}
 use Rattle.replacement.specs.Calls.{inLimits}
 use Rattle.row.proofs.Answer.{the-type}
-use Rattle.row.proofs.TagLaws.{wiped-length}
+use Rattle.row.proofs.LineLaws.{clean-long}
 use Rattle.row.specs.Row.{Row, Effect, ways, asRead, moved, dropped, droppedDirty, cleaned, clean}
 use Rattle.row.specs.Calls.{cleanOf}
 use Rattle.row.specs.declared.Maps.{Maps}
@@ -59,10 +59,6 @@ module _ (g : Geometry) (old new : Maps) where
 
   abbrev swept : Row → Row
   swept = cleaned (ruleOf (g .rule) (g .ways)) was next
-
-  swept-long : (r : Row) → length (swept r .tags) ≡ length (r .tags)
-  unfolding cleaned
-  swept-long r = wiped-length (moved was next) (r .tags)
 
   -- on a row of W tags the call's effect is the rule's
   row-effect : (r : Row) → inLimits (g .ways) (g .rule) ≡ true → length (r .tags) ≡ g .ways → cleanOf (g .rule) old new r ≡ clean (ruleOf (g .rule) (g .ways)) was next r
@@ -110,7 +106,7 @@ module _ (g : Geometry) (old new : Maps) (before after : Tables) (h : Shaped g b
   row-is : rowAt (g .ways) s after ≡ rowAt (g .ways) s before
   row-is =
       ap (rowAt (g .ways) s) (l .swept .tables-is)
-      ∙ each-later g (swept g old new) (swept-long g old new) before h s (omega arith) s (omega arith)
+      ∙ each-later g (swept g old new) (clean-long (ruleOf (g .rule) (g .ways)) (was g old new) (next g old new)) before h s (omega arith) s (omega arith)
 
   below : (p : ℕ → Bool) → count (ways (rowAt (g .ways) s before)) p ≤ 16
   below p =
@@ -123,7 +119,7 @@ module _ (g : Geometry) (old new : Maps) (before after : Tables) (h : Shaped g b
     within = omega arith;
     shaped = rw (e .tables-is)
         (put-shaped g after (swept g old new (rowAt (g .ways) s after)) (l .shaped) s k
-        (swept-long g old new (rowAt (g .ways) s after) ∙ row-long g (l .shaped) s k));
+        (clean-long (ruleOf (g .rule) (g .ways)) (was g old new) (next g old new) (rowAt (g .ways) s after) ∙ row-long g (l .shaped) s k));
     swept = rw (add-one s) (record {
       tables-is = e .tables-is ∙ ap₂ (λ (r : Row) (t : Tables). putRow (g .ways) s (swept g old new r) t) row-is (l .swept .tables-is);
       dropped-is = ap₂ _+_ (l .swept .dropped-is) (drops-is);

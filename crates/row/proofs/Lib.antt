@@ -3,3 +3,4 @@ pub mod RuleLaws
 pub mod TagLaws
 pub mod ReadLaws
 pub mod WorkLaws
+pub mod LineLaws

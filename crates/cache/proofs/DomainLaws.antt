@@ -1,0 +1,34 @@
+-- The domains: one of them written, and the others as they were.
+use mathlib.Core.Path.{_≡_, refl, sym, ap, _∙_}
+use mathlib.Core.Bool.{Bool, true, false, cond}
+use Prim.Native.Nat.{ℕ, _<_}
+use native.Mathlib.Omega.{arith}
+use lib.Dec.{eqb}
+use lib.ListN.{length, getD, set, length-set}
+use lib.Seq.{getD-set-same, getD-set-other}
+use Rattle.row.specs.Row.{asRead}
+use Rattle.row.specs.declared.Maps.{Maps}
+use Rattle.cache.specs.Domains.{noDomain, domainOf, putDomain, policies}
+use Rattle.cache.specs.declared.Domain.{Domain}
+use Rattle.cache.specs.declared.Domains.{Domains}
+
+module _ (ds : Domains) (d : ℕ) (x : Domain) where
+  pub put-sixteen : length (ds .records) ≡ 16 → length (putDomain d x ds .records) ≡ 16
+  unfolding putDomain
+  put-sixteen h = length-set (ds .records) d x ∙ h
+
+  pub put-same : length (ds .records) ≡ 16 → d < 16 → domainOf (putDomain d x ds) d ≡ x
+  unfolding putDomain domainOf
+  put-same h k = getD-set-same (ds .records) d x noDomain (rw h k)
+
+  pub put-other : (e : ℕ) → (e ≡ d → ⊥) → domainOf (putDomain d x ds) e ≡ domainOf ds e
+  unfolding putDomain domainOf
+  put-other e n = getD-set-other (ds .records) d e x noDomain n
+
+  pub policy-same : (W : ℕ) → length (ds .records) ≡ 16 → d < 16 → policies W (putDomain d x ds) d ≡ asRead W (record { hit = x .hit; fill = x .fill })
+  unfolding policies
+  policy-same W h k = ap (λ (y : Domain). asRead W (record { hit = y .hit; fill = y .fill })) (put-same h k)
+
+  pub policy-other : (W e : ℕ) → (e ≡ d → ⊥) → policies W (putDomain d x ds) e ≡ policies W ds e
+  unfolding policies
+  policy-other W e n = ap (λ (y : Domain). asRead W (record { hit = y .hit; fill = y .fill })) (put-other e n)

@@ -1,0 +1,364 @@
+-- What the steps on a set do to one line: what they leave alone, and what they go by.
+use mathlib.Core.Path.{_≡_, refl, sym, ap, ap₂, _∙_}
+use mathlib.Core.Bool.{Bool, true, false, cond, not, _&&_, xor, false≢true}
+use mathlib.Core.List.{List, [], _∷_}
+use Prim.Native.Nat.{ℕ, zero, suc, pred, _≤_, _<_}
+use native.Mathlib.Nat.{lt-of-lt-of-le}
+use native.Mathlib.Omega.{arith}
+use lib.Dec.{eqb, ltb}
+use lib.ListN.{length, getD, set, length-set}
+use lib.Seq.{getD-set-same, getD-set-other}
+use borrow.Author.Tests.{ne-eqb, ltb-true}
+use Rattle.waymap.specs.Bits.{Bits, bit, word, any, lowest, count, put}
+use Rattle.waymap.proofs.Booleans.{cases, and-left, and-right}
+use Rattle.waymap.proofs.WordLaws.{bit-word, bit-word-in}
+use Rattle.waymap.proofs.WayLaws.{any-ext, lowest-ext, lowest-found, count-ext}
+use Rattle.replacement.specs.Rule.{Rule}
+use Rattle.replacement.specs.Isolates.{Isolates, SameOwn}
+use Rattle.row.specs.Row.{Row, Effect, ways, asRead, matches, isHit, hitWay, hitAt, vacant, filled, fillAt, evictAt, accessBy, access, flushAt, flush, moved, without, wiped, dropped, droppedDirty, cleaned}
+use Rattle.row.specs.View.{SameLine, SameView}
+use Rattle.row.specs.declared.Maps.{Maps}
+use Rattle.row.specs.declared.Answer.{Answer}
+use Rattle.row.specs.declared.Answer.the-variants.{Hit, Fill, Evict, Pass, Flush, Absent, Policy}
+use Rattle.row.proofs.TagLaws.{wiped-length, wiped-at}
+
+-- ---- one line
+
+pub same-line : (r : Row) (w : ℕ) → SameLine r r w
+same-line r w = record { valid = refl; dirty = refl; tag = refl }
+
+pub line-trans : {r q s : Row} {w : ℕ} → SameLine r q w → SameLine q s w → SameLine r s w
+line-trans a b = record { valid = a .valid ∙ b .valid; dirty = a .dirty ∙ b .dirty; tag = a .tag ∙ b .tag }
+
+pub line-sym : {r q : Row} {w : ℕ} → SameLine r q w → SameLine q r w
+line-sym a = record { valid = sym (a .valid); dirty = sym (a .dirty); tag = sym (a .tag) }
+
+-- a map with one way put in or taken out, at each way
+put-bit : (w : ℕ) (on : Bool) (map v : ℕ) → v < 16 → bit (put w on map) v ≡ cond (eqb w v) on (bit map v)
+unfolding put
+put-bit w on map v h = bit-word-in 16 (λ (u : ℕ). cond (eqb w u) on (bit map u)) v h
+
+put-agrees : (w : ℕ) (on : Bool) (m n v : ℕ) → v < 16 → bit m v ≡ bit n v → bit (put w on m) v ≡ bit (put w on n) v
+put-agrees w on m n v h e = put-bit w on m v h ∙ ap (λ (t : Bool). cond (eqb w v) on t) e ∙ sym (put-bit w on n v h)
+
+put-other : (w : ℕ) (on : Bool) (m v : ℕ) → v < 16 → (w ≡ v → ⊥) → bit (put w on m) v ≡ bit m v
+put-other w on m v h n = put-bit w on m v h ∙ rw (ne-eqb w v n)
+
+-- a tag stored, at each way
+set-agrees : (xs ys : List ℕ) (w t v : ℕ) → length xs ≡ length ys → getD xs v 0 ≡ getD ys v 0 → getD (set xs w t) v 0 ≡ getD (set ys w t) v 0
+set-agrees [] [] w t v l e = refl
+set-agrees [] (y ∷ ys) w t v l e = absurd (omega arith)
+set-agrees (x ∷ xs) [] w t v l e = absurd (omega arith)
+set-agrees (x ∷ xs) (y ∷ ys) zero t zero l e = refl
+set-agrees (x ∷ xs) (y ∷ ys) zero t (suc v) l e = e
+set-agrees (x ∷ xs) (y ∷ ys) (suc w) t zero l e = e
+set-agrees (x ∷ xs) (y ∷ ys) (suc w) t (suc v) l e = set-agrees xs ys w t v (ap pred l) e
+
+-- ---- a filled way
+
+module _ (R : Rule) (fill tag : ℕ) (store : Bool) (w x : ℕ) (r : Row) where
+  filled-other : (v : ℕ) → v < 16 → (w ≡ v → ⊥) → SameLine (filled R fill tag store w x r) r v
+  unfolding filled
+  filled-other v h n = record {
+    valid = put-other w true (r .valid) v h n;
+    dirty = put-other w store (r .dirty) v h n;
+    tag = getD-set-other (r .tags) w v tag 0 (λ e. n (sym e));
+  }
+
+  filled-agrees : (q : Row) (y v : ℕ) → v < 16 → length (r .tags) ≡ length (q .tags) → SameLine r q v
+      → SameLine (filled R fill tag store w x r) (filled R fill tag store w y q) v
+  unfolding filled
+  filled-agrees q y v h l e = record {
+    valid = put-agrees w true (r .valid) (q .valid) v h (e .valid);
+    dirty = put-agrees w store (r .dirty) (q .dirty) v h (e .dirty);
+    tag = set-agrees (r .tags) (q .tags) w tag v l (e .tag);
+  }
+
+-- ---- a hit
+
+module _ (R : Rule) (fill : ℕ) (store : Bool) (w : ℕ) (r : Row) where
+  hit-other : (v : ℕ) → v < 16 → (w ≡ v → ⊥) → SameLine (hitAt R fill store w r .row) r v
+  unfolding hitAt
+  hit-other v h n = record { valid = refl; dirty = cases store (λ t. rw t (put-other w true (r .dirty) v h n)) (λ t. rw t); tag = refl }
+
+  hit-agrees : (q : Row) (v : ℕ) → v < 16 → SameLine r q v → SameLine (hitAt R fill store w r .row) (hitAt R fill store w q .row) v
+  unfolding hitAt
+  hit-agrees q v h e = record {
+    valid = e .valid;
+    dirty = cases store (λ t. rw t (put-agrees w true (r .dirty) (q .dirty) v h (e .dirty))) (λ t. rw t (e .dirty));
+    tag = e .tag;
+  }
+
+-- ---- an access by its cases, on two rows for which its tests come out alike
+
+access-cases : (R : Rule) (p : Maps) (tag : ℕ) (store : Bool) (r q : Row) (P : Effect → Effect → Type 0)
+    → isHit r (p .hit) tag ≡ isHit q (p .hit) tag → any (ways r) (bit (p .fill)) ≡ any (ways q) (bit (p .fill))
+    → any (ways r) (vacant r (p .fill)) ≡ any (ways q) (vacant q (p .fill))
+    → (isHit r (p .hit) tag ≡ true → P (hitAt R (p .fill) store (hitWay r (p .hit) tag) r) (hitAt R (p .fill) store (hitWay q (p .hit) tag) q))
+    → P (record { answer = Pass; row = r }) (record { answer = Pass; row = q })
+    → (any (ways r) (vacant r (p .fill)) ≡ true → P (fillAt R (p .fill) tag store r) (fillAt R (p .fill) tag store q))
+    → (any (ways r) (bit (p .fill)) ≡ true → P (evictAt R (p .fill) tag store r) (evictAt R (p .fill) tag store q))
+    → P (access R p tag store r) (access R p tag store q)
+unfolding access accessBy
+access-cases R p tag store r q P e f g hit pass fill evict =
+    rw (← e, ← f, ← g)
+    (cases (isHit r (p .hit) tag)
+    (λ t. rw t (hit t))
+    (λ t. rw t
+    (cases (any (ways r) (bit (p .fill)))
+    (λ u. rw u (cases (any (ways r) (vacant r (p .fill))) (λ v. rw v (fill v)) (λ v. rw v (evict u))))
+    (λ u. rw u pass))))
+
+-- ---- what a policy as read is: the fill map part of the hit map, both within the ways
+
+pub record Cut (W : ℕ) (p : Maps) : Type 0 where
+  pub part : (w : ℕ) → bit (p .fill) w ≡ true → bit (p .hit) w ≡ true
+  pub within : (w : ℕ) → bit (p .hit) w ≡ true → w < W
+
+module _ {W : ℕ} {R : Rule} (I : Isolates W R) (few : W ≤ 16) (p : Maps) (c : Cut W p) (tag : ℕ) where
+  -- ---- the ways that an access or a flush works on are the domain's
+
+  module _ (r : Row) (long : length (r .tags) ≡ W) where
+    hit-own : isHit r (p .hit) tag ≡ true → bit (p .hit) (hitWay r (p .hit) tag) ≡ true
+    unfolding isHit hitWay matches
+    hit-own e =
+        let w = hitWay r (p .hit) tag in
+        and-left (bit (p .hit) w) (bit (r .valid) w) (and-left (bit (p .hit) w && bit (r .valid) w) (eqb (getD (r .tags) w 0) tag) (lowest-found (ways r) (matches r (p .hit) tag) e .1))
+
+    vacant-own : any (ways r) (vacant r (p .fill)) ≡ true → bit (p .hit) (lowest (ways r) (vacant r (p .fill))) ≡ true
+    unfolding vacant
+    vacant-own e =
+        let w = lowest (ways r) (vacant r (p .fill)) in
+        c .part w (and-left (bit (p .fill) w) (not (bit (r .valid) w)) (lowest-found (ways r) (vacant r (p .fill)) e .1))
+
+    victim-own : any (ways r) (bit (p .fill)) ≡ true → bit (p .hit) (R .victim (p .fill) (r .word)) ≡ true
+    victim-own e = c .part (R .victim (p .fill) (r .word)) (I .victim-in (p .fill) (r .word) (rw long at e) .1)
+
+    -- a way of the hit map is no other
+    apart : (w v : ℕ) → bit (p .hit) w ≡ true → bit (p .hit) v ≡ false → w ≡ v → ⊥
+    apart w v a b e = false≢true (sym b ∙ ap (bit (p .hit)) (sym e) ∙ a)
+
+    -- an access leaves the lines outside the hit map alone
+    pub access-leaves : (store : Bool) (v : ℕ) → v < W → bit (p .hit) v ≡ false → SameLine (access R p tag store r .row) r v
+    unfolding fillAt evictAt
+    access-leaves store v h b =
+        access-cases R p tag store r r (λ e f. SameLine (e .row) r v) refl refl refl
+        (λ t. hit-other R (p .fill) store (hitWay r (p .hit) tag) r v low (apart (hitWay r (p .hit) tag) v (hit-own t) b))
+        (same-line r v)
+        (λ t. filled-other R (p .fill) tag store (lowest (ways r) (vacant r (p .fill))) (r .word) r v low (apart (lowest (ways r) (vacant r (p .fill))) v (vacant-own t) b))
+        (λ t. filled-other R (p .fill) tag store (R .victim (p .fill) (r .word)) (R .before (p .fill) (r .word)) r v low (apart (R .victim (p .fill) (r .word)) v (victim-own t) b))
+      where
+        low : v < 16
+        low = lt-of-lt-of-le h few
+
+    -- and the cells that the fill map does not write
+    pub access-stays : (store : Bool) (x : R .Cell) → R .writes (p .fill) x ≡ false → R .view (access R p tag store r .row .word) x ≡ R .view (r .word) x
+    unfolding hitAt fillAt evictAt filled
+    access-stays store x b =
+        access-cases R p tag store r r (λ e f. R .view (e .row .word) x ≡ R .view (r .word) x) refl refl refl
+        (λ t. I .touch-stays (p .fill) (hitWay r (p .hit) tag) (r .word) x b)
+        refl
+        (λ t. I .touch-stays (p .fill) (lowest (ways r) (vacant r (p .fill))) (r .word) x b)
+        (λ t. I .touch-stays (p .fill) (R .victim (p .fill) (r .word)) (R .before (p .fill) (r .word)) x b ∙ I .before-stays (p .fill) (r .word) x b)
+
+    -- so does a flush, and it leaves the word
+    pub flush-leaves : (v : ℕ) → v < W → bit (p .hit) v ≡ false → SameLine (flush p tag r .row) r v
+    unfolding flush flushAt
+    flush-leaves v h b =
+        cases (isHit r (p .hit) tag)
+        (λ t. rw t (record {
+          valid = put-other (hitWay r (p .hit) tag) false (r .valid) v (lt-of-lt-of-le h few) (apart (hitWay r (p .hit) tag) v (hit-own t) b);
+          dirty = put-other (hitWay r (p .hit) tag) false (r .dirty) v (lt-of-lt-of-le h few) (apart (hitWay r (p .hit) tag) v (hit-own t) b);
+          tag = refl;
+        }))
+        (λ t. rw t (same-line r v))
+
+    pub flush-word : flush p tag r .row .word ≡ r .word
+    unfolding flush flushAt
+    flush-word = cases (isHit r (p .hit) tag) (λ t. rw t) (λ t. rw t)
+
+  -- ---- two rows that look the same to the domain: the answers are the same, and what is alike stays alike
+
+  module _ (r q : Row) (long-r : length (r .tags) ≡ W) (long-q : length (q .tags) ≡ W) (s : SameView R p r q) where
+    as-long : ways r ≡ ways q
+    as-long = long-r ∙ sym long-q
+
+    matches-same : (w : ℕ) → matches r (p .hit) tag w ≡ matches q (p .hit) tag w
+    unfolding matches
+    matches-same w =
+        cases (bit (p .hit) w)
+        (λ t. rw t (ap₂ (λ (b : Bool) (x : ℕ). b && eqb x tag) (s .lines w t .valid) (s .lines w t .tag)))
+        (λ t. rw t)
+
+    vacant-same : (w : ℕ) → vacant r (p .fill) w ≡ vacant q (p .fill) w
+    unfolding vacant
+    vacant-same w = cases (bit (p .fill) w) (λ t. rw t (ap not (s .lines w (c .part w t) .valid))) (λ t. rw t)
+
+    hit-same : isHit r (p .hit) tag ≡ isHit q (p .hit) tag
+    unfolding isHit
+    hit-same = ap (λ (n : ℕ). any n (matches r (p .hit) tag)) as-long ∙ any-ext (ways q) (λ w h. matches-same w)
+
+    way-same : hitWay r (p .hit) tag ≡ hitWay q (p .hit) tag
+    unfolding hitWay
+    way-same = ap (λ (n : ℕ). lowest n (matches r (p .hit) tag)) as-long ∙ lowest-ext (ways q) (λ w h. matches-same w)
+
+    fill-same : any (ways r) (bit (p .fill)) ≡ any (ways q) (bit (p .fill))
+    fill-same = ap (λ (n : ℕ). any n (bit (p .fill))) as-long
+
+    room-same : any (ways r) (vacant r (p .fill)) ≡ any (ways q) (vacant q (p .fill))
+    room-same = ap (λ (n : ℕ). any n (vacant r (p .fill))) as-long ∙ any-ext (ways q) (λ w h. vacant-same w)
+
+    lowest-same : lowest (ways r) (vacant r (p .fill)) ≡ lowest (ways q) (vacant q (p .fill))
+    lowest-same = ap (λ (n : ℕ). lowest n (vacant r (p .fill))) as-long ∙ lowest-ext (ways q) (λ w h. vacant-same w)
+
+    victim-same : R .victim (p .fill) (r .word) ≡ R .victim (p .fill) (q .word)
+    victim-same = I .victim-own (p .fill) (r .word) (q .word) (s .own)
+
+    by-cases : (store : Bool) (P : Effect → Effect → Type 0)
+        → (isHit r (p .hit) tag ≡ true → P (hitAt R (p .fill) store (hitWay r (p .hit) tag) r) (hitAt R (p .fill) store (hitWay q (p .hit) tag) q))
+        → P (record { answer = Pass; row = r }) (record { answer = Pass; row = q })
+        → (any (ways r) (vacant r (p .fill)) ≡ true → P (fillAt R (p .fill) tag store r) (fillAt R (p .fill) tag store q))
+        → (any (ways r) (bit (p .fill)) ≡ true → P (evictAt R (p .fill) tag store r) (evictAt R (p .fill) tag store q))
+        → P (access R p tag store r) (access R p tag store q)
+    by-cases store P = access-cases R p tag store r q P hit-same fill-same room-same
+
+    pub access-answer : (store : Bool) → access R p tag store r .answer ≡ access R p tag store q .answer
+    unfolding hitAt fillAt evictAt
+    access-answer store =
+        by-cases store (λ e f. e .answer ≡ f .answer)
+        (λ t. ap Hit way-same)
+        refl
+        (λ t. ap Fill lowest-same)
+        (λ t. let l : SameLine r q (R .victim (p .fill) (r .word)) = s .lines (R .victim (p .fill) (r .word)) (victim-own r long-r t) in
+        rw (← victim-same) (ap₂ (λ (x : ℕ) (b : Bool). Evict (R .victim (p .fill) (r .word)) x b) (l .tag) (l .dirty)))
+
+    pub access-agrees : (store : Bool) (v : ℕ) → v < W → SameLine r q v → SameLine (access R p tag store r .row) (access R p tag store q .row) v
+    unfolding fillAt evictAt
+    access-agrees store v h e =
+        by-cases store (λ a b. SameLine (a .row) (b .row) v)
+        (λ t. rw (← way-same) (hit-agrees R (p .fill) store (hitWay r (p .hit) tag) r q v low e))
+        e
+        (λ t. rw (← lowest-same) (filled-agrees R (p .fill) tag store (lowest (ways r) (vacant r (p .fill))) (r .word) r q (q .word) v low as-long e))
+        (λ t. rw (← victim-same)
+        (filled-agrees R (p .fill) tag store (R .victim (p .fill) (r .word)) (R .before (p .fill) (r .word)) r q (R .before (p .fill) (q .word)) v low as-long e))
+      where
+        low : v < 16
+        low = lt-of-lt-of-le h few
+
+    pub access-view : (store : Bool) (x : R .Cell) → R .view (r .word) x ≡ R .view (q .word) x
+        → R .view (access R p tag store r .row .word) x ≡ R .view (access R p tag store q .row .word) x
+    unfolding hitAt fillAt evictAt filled
+    access-view store x e =
+        by-cases store (λ a b. R .view (a .row .word) x ≡ R .view (b .row .word) x)
+        (λ t. rw (← way-same) (I .touch-agrees (p .fill) (hitWay r (p .hit) tag) (r .word) (q .word) x (s .own) e))
+        e
+        (λ t. rw (← lowest-same) (I .touch-agrees (p .fill) (lowest (ways r) (vacant r (p .fill))) (r .word) (q .word) x (s .own) e))
+        (λ t. rw (← victim-same)
+        (I .touch-agrees (p .fill) (R .victim (p .fill) (r .word)) (R .before (p .fill) (r .word)) (R .before (p .fill) (q .word)) x
+        (λ y o. I .before-agrees (p .fill) (r .word) (q .word) y (s .own) (s .own y o))
+        (I .before-agrees (p .fill) (r .word) (q .word) x (s .own) e)))
+
+    pub flush-answer : flush p tag r .answer ≡ flush p tag q .answer
+    unfolding flush flushAt
+    flush-answer =
+        rw (← hit-same, ← way-same)
+        (cases (isHit r (p .hit) tag) (λ t. rw t (ap (Flush (hitWay r (p .hit) tag)) (s .lines (hitWay r (p .hit) tag) (hit-own r long-r t) .dirty))) (λ t. rw t))
+
+    pub flush-agrees : (v : ℕ) → v < W → SameLine r q v → SameLine (flush p tag r .row) (flush p tag q .row) v
+    unfolding flush flushAt
+    flush-agrees v h e =
+        rw (← hit-same, ← way-same)
+        (cases (isHit r (p .hit) tag)
+        (λ t. rw t (record {
+          valid = put-agrees (hitWay r (p .hit) tag) false (r .valid) (q .valid) v (lt-of-lt-of-le h few) (e .valid);
+          dirty = put-agrees (hitWay r (p .hit) tag) false (r .dirty) (q .dirty) v (lt-of-lt-of-le h few) (e .dirty);
+          tag = e .tag;
+        }))
+        (λ t. rw t e))
+
+-- ---- a change of policy
+
+without-bit : (gone : Bits) (map v : ℕ) → v < 16 → bit (without gone map) v ≡ cond (gone v) false (bit map v)
+unfolding without
+without-bit gone map v h = bit-word-in 16 (λ (w : ℕ). cond (gone w) false (bit map w)) v h
+
+module _ {W : ℕ} (R : Rule) (few : W ≤ 16) (old new : Maps) where
+  -- a way that moves comes out the same whatever was in it; another way stays
+  pub clean-gone : (r q : Row) (v : ℕ) → v < W → moved old new v ≡ true → SameLine (cleaned R old new r) (cleaned R old new q) v
+  unfolding cleaned
+  clean-gone r q v h t =
+      let low : v < 16 = lt-of-lt-of-le h few in
+      record {
+        valid = without-bit (moved old new) (r .valid) v low ∙ rw t (sym (without-bit (moved old new) (q .valid) v low ∙ rw t));
+        dirty = without-bit (moved old new) (r .dirty) v low ∙ rw t (sym (without-bit (moved old new) (q .dirty) v low ∙ rw t));
+        tag = wiped-at (moved old new) (r .tags) v ∙ rw t (sym (wiped-at (moved old new) (q .tags) v ∙ rw t));
+      }
+
+  pub clean-leaves : (r : Row) (v : ℕ) → v < W → moved old new v ≡ false → SameLine (cleaned R old new r) r v
+  unfolding cleaned
+  clean-leaves r v h t =
+      let low : v < 16 = lt-of-lt-of-le h few in
+      record {
+        valid = without-bit (moved old new) (r .valid) v low ∙ rw t;
+        dirty = without-bit (moved old new) (r .dirty) v low ∙ rw t;
+        tag = wiped-at (moved old new) (r .tags) v ∙ rw t;
+      }
+
+  pub clean-agrees : (r q : Row) (v : ℕ) → v < W → SameLine r q v → SameLine (cleaned R old new r) (cleaned R old new q) v
+  clean-agrees r q v h e =
+      cases (moved old new v)
+      (λ t. clean-gone r q v h t)
+      (λ t. line-trans (clean-leaves r v h t) (line-trans e (line-sym (clean-leaves q v h t))))
+
+  -- the drops go by the lines in the ways that move
+  module _ (r q : Row) (long-r : length (r .tags) ≡ W) (long-q : length (q .tags) ≡ W) (e : (v : ℕ) → v < W → moved old new v ≡ true → SameLine r q v) where
+    pub drops-same : dropped old new r ≡ dropped old new q
+    unfolding dropped
+    drops-same =
+        rw (long-r, long-q)
+        (count-ext W (λ w h. cases (moved old new w) (λ t. rw t (e w h t .valid)) (λ t. rw t)))
+
+    pub dirty-drops-same : droppedDirty old new r ≡ droppedDirty old new q
+    unfolding droppedDirty
+    dirty-drops-same =
+        rw (long-r, long-q)
+        (count-ext W (λ w h. cases (moved old new w) (λ t. rw t (ap₂ _&&_ (e w h t .valid) (e w h t .dirty))) (λ t. rw t)))
+
+-- ---- a row keeps its length
+
+pub access-long : (R : Rule) (p : Maps) (tag : ℕ) (store : Bool) (r : Row) → length (access R p tag store r .row .tags) ≡ length (r .tags)
+unfolding hitAt fillAt evictAt filled
+access-long R p tag store r =
+    access-cases R p tag store r r (λ e f. length (e .row .tags) ≡ length (r .tags)) refl refl refl
+    (λ t. refl) refl
+    (λ t. length-set (r .tags) (lowest (ways r) (vacant r (p .fill))) tag)
+    (λ t. length-set (r .tags) (R .victim (p .fill) (r .word)) tag)
+
+pub flush-long : (p : Maps) (tag : ℕ) (r : Row) → length (flush p tag r .row .tags) ≡ length (r .tags)
+unfolding flush flushAt
+flush-long p tag r = cases (isHit r (p .hit) tag) (λ t. rw t) (λ t. rw t)
+
+pub clean-long : (R : Rule) (old new : Maps) (r : Row) → length (cleaned R old new r .tags) ≡ length (r .tags)
+unfolding cleaned
+clean-long R old new r = wiped-length (moved old new) (r .tags)
+
+-- ---- a policy as read
+
+pub cut-read : (W : ℕ) (p : Maps) → Cut W (asRead W p)
+unfolding asRead
+cut-read W p = record { part = part; within = within }
+  where
+    hits : Bits
+    hits = λ w. bit (p .hit) w && ltb w W
+
+    fills : Bits
+    fills = λ w. bit (p .fill) w && (bit (p .hit) w && ltb w W)
+
+    part : (w : ℕ) → bit (word 16 fills) w ≡ true → bit (word 16 hits) w ≡ true
+    part w e =
+        let all : (ltb w 16 && fills w) ≡ true = sym (bit-word 16 fills w) ∙ e in
+        bit-word 16 hits w ∙ rw (and-left (ltb w 16) (fills w) all, and-right (bit (p .fill) w) (hits w) (and-right (ltb w 16) (fills w) all))
+
+    within : (w : ℕ) → bit (word 16 hits) w ≡ true → w < W
+    within w e =
+        ltb-true w W (and-right (bit (p .hit) w) (ltb w W) (and-right (ltb w 16) (hits w) (sym (bit-word 16 hits w) ∙ e)))
