@@ -2,17 +2,18 @@
 use mathlib.Core.Path.{_≡_, refl, sym, ap, ap₂, _∙_}
 use mathlib.Core.Logic.{_⊎_, inl, inr}
 use mathlib.Core.List.{[], _∷_}
-use mathlib.Core.Bool.{Bool, true, false, cond, not, _&&_, _||_, or-true, true≢false}
+use mathlib.Core.Bool.{Bool, true, false, cond, not, _&&_, _||_, and-true, or-true, true≢false}
 use Prim.Native.Nat.{ℕ, zero, suc, _+_, _-_, _/_, _%_, _^_, _≤_, _<_}
-use native.Mathlib.Nat.{lt-of-le-of-lt}
+use native.Mathlib.Nat.{lt-of-le-of-lt, mod-lt}
 use native.Mathlib.Omega.{arith}
 use lib.Dec.{eqb, leb, ltb}
 use lib.Bits.{bitAnd, and-le-l}
-use borrow.Author.Tests.{ne-eqb, lt-ltb, not-true, not-false}
+use borrow.Author.Tests.{ne-eqb, lt-ltb, ltb-false, le-leb, not-true, not-false}
 use types.Run.{OneOf}
 use denote.Enum.Declared.{tagOf}
-use Rattle.waymap.specs.Bits.{Bits, bit, any, reaches}
-use Rattle.waymap.proofs.Booleans.{or-none}
+use Rattle.waymap.specs.Bits.{Bits, bit, word, any, reaches}
+use Rattle.waymap.proofs.Booleans.{cases, or-none}
+use Rattle.waymap.proofs.WordLaws.{from-bits}
 use Rattle.waymap.proofs.BitLaws.{bit-and, bit-not}
 use Rattle.waymap.proofs.WayLaws.{any-ext, any-bits, any-none, none-at}
 use Rattle.replacement.specs.Rule.{Rule, ruleOf}
@@ -20,6 +21,7 @@ use Rattle.replacement.specs.Calls.{answerOf, inLimits, sharesOf}
 use Rattle.replacement.specs.declared.Reply.{Reply}
 use Rattle.replacement.specs.declared.Reply.the-variants.{Way, Done, OutsideLimits, OutOfReach, SharedNode}
 use Rattle.replacement.proofs.Reply.{the-type}
+use Rattle.row.specs.Row.{asRead}
 use Rattle.row.specs.declared.Maps.{Maps}
 use Rattle.waymap.proofs.MapLaws.{reach-below}
 use Rattle.row.proofs.ReadLaws.{fill-below}
@@ -116,7 +118,52 @@ module _ (W rule fill other : ℕ) (limits : inLimits W rule ≡ true) (f : reac
       say true OutOfReach t e = let z : _≡_ {A = ℕ} 5 9 = cc in absurd (omega arith)
       say true SharedNode t e = absurd (not-four t)
 
+gone : (b : Bool) → (b && true) ≡ false → b ≡ (b && false)
+gone true e = e
+gone false e = refl
+
+held : (f h : Bool) → (f && not h) ≡ false → f ≡ (f && h)
+held true true e = refl
+held true false e = e
+held false h e = refl
+
 -- a policy as read stays within the ways
 pub policy-within : (W : ℕ) (ds : Domains) (e : ℕ) {p : Maps} → p ≡ policies W ds e → reaches W (p .fill) ≡ false
 unfolding policies
 policy-within W ds e q = rw q (reach-below W (policies W ds e .fill) (fill-below W (record { hit = domainOf ds e .hit; fill = domainOf ds e .fill })))
+
+-- an argument that is not bad says maps that read as they are
+pub good-maps : (W arg : ℕ) → badArgument W arg ≡ false → asRead W (newMaps arg) ≡ newMaps arg
+unfolding asRead badArgument reaches newMaps
+good-maps W arg e = λ i. record { hit = hit-is i; fill = fill-is i }
+  where
+    hit : ℕ
+    hit = arg % 65536
+
+    fill : ℕ
+    fill = arg / 65536 % 65536
+
+    out : ℕ → Bool
+    out w = bit fill w && not (bit hit w)
+
+    maps : (any 16 (λ (w : ℕ). bit hit w && leb W w) || any 16 out) ≡ false
+    maps = or-none (any 16 (λ (w : ℕ). bit hit w && leb W w) || any 16 out) (not (eqb (arg / 4294967296) 0)) e .0
+
+    both : (any 16 (λ (w : ℕ). bit hit w && leb W w) ≡ false) × (any 16 out ≡ false)
+    both = or-none (any 16 (λ (w : ℕ). bit hit w && leb W w)) (any 16 out) maps
+
+    -- a way of the hit map is below W, and a way of the fill map is in the hit map
+    hit-at : (w : ℕ) → w < 16 → bit hit w ≡ (bit hit w && ltb w W)
+    hit-at w h =
+        cases (ltb w W)
+        (λ t. rw (t, and-true (bit hit w)))
+        (λ t. rw t (gone (bit hit w) (rw (le-leb W w (ltb-false w W t)) at (none-at 16 (λ (v : ℕ). bit hit v && leb W v) w (both .0) h))))
+
+    fill-at : (w : ℕ) → w < 16 → bit fill w ≡ (bit fill w && (bit hit w && ltb w W))
+    fill-at w h = rw (← hit-at w h) (held (bit fill w) (bit hit w) (none-at 16 out w (both .1) h))
+
+    hit-is : word 16 (λ (w : ℕ). bit hit w && ltb w W) ≡ hit
+    hit-is = sym (from-bits 16 (mod-lt arg (omega arith)) hit-at)
+
+    fill-is : word 16 (λ (w : ℕ). bit fill w && (bit hit w && ltb w W)) ≡ fill
+    fill-is = sym (from-bits 16 (mod-lt (arg / 65536) (omega arith)) fill-at)

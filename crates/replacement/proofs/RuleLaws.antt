@@ -8,7 +8,7 @@ use borrow.Author.Tests.{ltb-true, lt-ltb}
 use Rattle.waymap.specs.Bits.{Bits, bit, word, any}
 use Rattle.waymap.proofs.Booleans.{cases, not-both}
 use Rattle.waymap.proofs.WordLaws.{bit-word}
-use Rattle.waymap.proofs.WayLaws.{none-at, any-ext}
+use Rattle.waymap.proofs.WayLaws.{none-at, any-ext, any-none}
 use Rattle.replacement.specs.Tree as Tree
 use Rattle.replacement.specs.Nru as Nru
 use Rattle.replacement.specs.Rule.{Rule, bit64, tree, nru, ruleOf}
@@ -62,6 +62,7 @@ tree-isolates W bound = record {
   own-apart = λ map other c apart e own.
       not-both (Tree.free W (bit map) c) (Tree.free W (bit other) c)
       (none-at (W - 1) (λ (i : ℕ). Tree.free W (bit map) i && Tree.free W (bit other) i) c e (TreeLaws.free-node W (bit map) c own)) own;
+  shares-empty = λ map other none. any-none (W - 1) (λ i h. rw (TreeLaws.free-empty W (bit map) i none));
   shares-sym = λ map other. any-ext (W - 1) (λ i h. and-comm (Tree.free W (bit map) i) (Tree.free W (bit other) i));
 }
 
@@ -91,6 +92,7 @@ nru-isolates W bound = record {
   own-writes = λ map c e. e;
   empty-writes = λ map c none. none c;
   own-apart = λ map other c apart e own. not-both (bit map c) (bit other c) (apart c) own;
+  shares-empty = λ map other none. refl;
   shares-sym = λ map other. refl;
 }
 

@@ -35,5 +35,7 @@ pub record Isolates (W : ℕ) (R : Rule) : Type 0 where
   pub empty-writes : (map : ℕ) (c : R .Cell) → ((w : ℕ) → bit map w ≡ false) → R .writes map c ≡ false
   -- of two maps without a common way that number 9 lets stand, neither goes by what the other writes
   pub own-apart : (map other : ℕ) (c : R .Cell) → Apart map other → R .shares map other ≡ false → R .own map c ≡ true → R .writes other c ≡ false
+  -- number 9 lets an empty map stand beside any other
+  pub shares-empty : (map other : ℕ) → ((w : ℕ) → bit map w ≡ false) → R .shares map other ≡ false
   -- number 9's test does not depend on the order of the two maps
   pub shares-sym : (map other : ℕ) → R .shares map other ≡ R .shares other map

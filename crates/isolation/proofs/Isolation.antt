@@ -1,0 +1,143 @@
+-- The struck-out run, as one theorem.
+use mathlib.Core.Path.{_≡_, refl, sym, ap, ap₂, subst, _∙_}
+use mathlib.Core.Bool.{Bool, true, false, cond, not, _&&_, _||_, and-false}
+use mathlib.Core.List.{List, [], _∷_}
+use Prim.Native.Nat.{ℕ, _*_, _≤_, _<_}
+use native.Mathlib.Nat.{le-trans}
+use native.Mathlib.Omega.{arith}
+use lib.Dec.{eqb, ltb, lit≤}
+use lib.ListN.{length, replicate, length-replicate, getD, getD-replicate, List·getD-eq-default}
+use borrow.Author.Tests.{ne-eqb, ltb-true, ltb-false, not-false}
+use Rattle.waymap.specs.Bits.{Bits, bit, word}
+use Rattle.waymap.proofs.Booleans.{cases, or-none}
+use Rattle.waymap.proofs.BitLaws.{bit-none}
+use Rattle.waymap.proofs.WordLaws.{bit-word}
+use Rattle.replacement.specs.Rule.{Rule, ruleOf}
+use Rattle.row.specs.Row.{Row, asRead}
+use Rattle.row.specs.declared.Maps.{Maps}
+use Rattle.row.proofs.LineLaws.{same-line}
+use Rattle.cache.specs.Geometry.{within}
+use Rattle.cache.specs.Tables.{rowAt}
+use Rattle.cache.specs.Domains.{noDomain, domainOf, policies}
+use Rattle.cache.specs.Step.{State, Outcome, step}
+use Rattle.cache.specs.Run.{Command, stepOn, finally}
+use Rattle.cache.specs.Fresh.{freshTables, freshDomains, fresh}
+use Rattle.cache.specs.Inside.{Limited, Shaped}
+use Rattle.cache.specs.declared.Geometry.{Geometry}
+use Rattle.cache.specs.declared.Domain.{Domain}
+use Rattle.cache.proofs.GeometryLaws.{limited}
+use Rattle.isolation.specs.Purge.{belongs, keeps, purge}
+use Rattle.isolation.specs.StruckOut.{ownAnswers, verdicts, SameTo, StruckOut}
+use Rattle.isolation.proofs.Relation.{Whole, Separate, Related, Alike}
+use Rattle.isolation.proofs.RowUnwinding.{rule, view-same}
+use Rattle.isolation.proofs.LineUnwinding.{policy-cut}
+use Rattle.isolation.proofs.Unwinding.{output-consistent, verdict-consistent, step-consistent, locally-respects}
+
+-- ---- what is struck out
+
+-- it belongs to another domain, and is no change of policy
+struck : (d : ℕ) (c : Command) → keeps d c ≡ false → belongs d c ≡ false
+unfolding keeps
+struck d c t = or-none (belongs d c) (not (ltb (c .kind) 4)) t .0
+
+struck-kind : (d : ℕ) (c : Command) → keeps d c ≡ false → eqb (c .kind) 16 ≡ false
+unfolding keeps
+struck-kind d c t =
+    ne-eqb (c .kind) 16
+    (λ e. let h : c .kind < 4 = ltb-true (c .kind) 4 (not-false (ltb (c .kind) 4) (or-none (belongs d c) (not (ltb (c .kind) 4)) t .1)) in omega arith)
+
+-- ---- a fresh cache is related to itself
+
+module _ (g : Geometry) (limits : within g ≡ true) (d : ℕ) (low : d < 16) where
+  l : Limited g
+  l = limited g limits
+
+  fresh-whole : Whole g (fresh g)
+  unfolding fresh freshTables freshDomains
+  fresh-whole = record {
+    shaped = record {
+      limited = l;
+      tags-long = length-replicate (g .sets * g .ways) 0;
+      valid-long = length-replicate (g .sets) 0;
+      dirty-long = length-replicate (g .sets) 0;
+      words-long = length-replicate (g .sets) (ruleOf (g .rule) (g .ways) .fresh);
+    };
+    sixteen = refl;
+  }
+
+  -- no domain has a way
+  fresh-domain : (e : ℕ) → domainOf (fresh g .domains) e ≡ noDomain
+  unfolding fresh freshDomains domainOf
+  fresh-domain e =
+      cases (ltb e 16)
+      (λ t. getD-replicate 16 e noDomain noDomain (ltb-true e 16 t))
+      (λ t. List·getD-eq-default (replicate 16 noDomain) noDomain (ltb-false e 16 t))
+
+  no-hit : (e w : ℕ) → bit (policies (g .ways) (fresh g .domains) e .hit) w ≡ false
+  unfolding policies asRead
+  no-hit e w = rw (fresh-domain e, bit-word 16 (λ (v : ℕ). bit 0 v && ltb v (g .ways)) w, bit-none w) (and-false (ltb w 16))
+
+  no-fill : (e w : ℕ) → bit (policies (g .ways) (fresh g .domains) e .fill) w ≡ false
+  unfolding policies asRead
+  no-fill e w = rw (fresh-domain e, bit-word 16 (λ (v : ℕ). bit 0 v && (bit 0 v && ltb v (g .ways))) w, bit-none w) (and-false (ltb w 16))
+
+  fresh-related : Related g d (fresh g) (fresh g)
+  fresh-related = record {
+    whole-a = fresh-whole;
+    whole-b = fresh-whole;
+    policy-same = λ e. refl;
+    separate = record {
+      ways-apart = λ e f he hf n w. rw (no-hit e w);
+      nodes-apart = λ e f he hf n. rule g l .shares-empty (policies (g .ways) (fresh g .domains) e .fill) (policies (g .ways) (fresh g .domains) f .fill) (no-fill e);
+    };
+    domain-same = refl;
+    alike = λ s h. record { lines = λ w k u. same-line (rowAt (g .ways) s (fresh g .tables)) w; cells = λ x u. refl };
+  }
+
+  -- ---- a list of steps and its purge, from related states
+
+  answers-from : (cs : List Command) (a b : State) → Related g d a b → ownAnswers g d cs a ≡ ownAnswers g d (purge d cs) b
+  unfolding ownAnswers purge
+  answers-from [] a b rel = refl
+  answers-from (c ∷ cs) a b rel =
+      cases (keeps d c)
+      (λ t. rw t
+      (cases (belongs d c)
+      (λ u. rw u (ap₂ _∷_ (output-consistent g limits d low a b rel c u) (answers-from cs (stepOn g c a .state) (stepOn g c b .state) (step-consistent g limits d low a b rel c t))))
+      (λ u. rw u (answers-from cs (stepOn g c a .state) (stepOn g c b .state) (step-consistent g limits d low a b rel c t)))))
+      (λ t. rw (t, struck d c t) (answers-from cs (stepOn g c a .state) b (locally-respects g limits d low a b rel c t)))
+
+  verdicts-from : (cs : List Command) (a b : State) → Related g d a b → verdicts g d cs a ≡ verdicts g d (purge d cs) b
+  unfolding verdicts purge
+  verdicts-from [] a b rel = refl
+  verdicts-from (c ∷ cs) a b rel =
+      cases (keeps d c)
+      (λ t. rw t
+      (cases (eqb (c .kind) 16)
+      (λ u. rw u (ap₂ (λ (n : ℕ) (r : List ℕ). cond (not (belongs d c)) (n ∷ r) r) (verdict-consistent g limits d low a b rel c u) (verdicts-from cs (stepOn g c a .state) (stepOn g c b .state) (step-consistent g limits d low a b rel c t))))
+      (λ u. rw u (verdicts-from cs (stepOn g c a .state) (stepOn g c b .state) (step-consistent g limits d low a b rel c t)))))
+      (λ t. rw (t, struck-kind d c t) (verdicts-from cs (stepOn g c a .state) b (locally-respects g limits d low a b rel c t)))
+
+  finally-from : (cs : List Command) (a b : State) → Related g d a b → Related g d (finally g cs a) (finally g (purge d cs) b)
+  unfolding finally purge
+  finally-from [] a b rel = rel
+  finally-from (c ∷ cs) a b rel =
+      cases (keeps d c)
+      (λ t. rw t (finally-from cs (stepOn g c a .state) (stepOn g c b .state) (step-consistent g limits d low a b rel c t)))
+      (λ t. rw t (finally-from cs (stepOn g c a .state) b (locally-respects g limits d low a b rel c t)))
+
+  -- related states are the same to the domain
+  same-to : (a b : State) → Related g d a b → SameTo g d a b
+  same-to a b rel = record {
+    domain = rel .domain-same;
+    sets = λ s h. view-same g l d low (policies (g .ways) (a .domains)) (policy-cut (g .ways) (a .domains)) (rel .separate) (rowAt (g .ways) s (a .tables)) (rowAt (g .ways) s (b .tables)) (rel .alike s h);
+  }
+
+-- Isolation. For every geometry within the limits, every domain and every list of steps whatever they name and ask for: strike the
+-- accesses and flushes of the other domains out, and the domain sees no difference.
+pub isolation : (g : Geometry) → within g ≡ true → (d : ℕ) → d < 16 → (cs : List Command) → StruckOut g d cs
+isolation g limits d low cs = record {
+  answers-same = answers-from g limits d low cs (fresh g) (fresh g) (fresh-related g limits d low);
+  verdicts-same = verdicts-from g limits d low cs (fresh g) (fresh g) (fresh-related g limits d low);
+  finally-same = same-to g limits d low (finally g cs (fresh g)) (finally g (purge d cs) (fresh g)) (finally-from g limits d low cs (fresh g) (fresh g) (fresh-related g limits d low));
+}

@@ -1,0 +1,193 @@
+-- The relation on whole states: accesses and flushes.
+use mathlib.Core.Path.{_≡_, refl, sym, ap, ap₂, subst, fun-ext, _∙_}
+use mathlib.Core.Bool.{Bool, true, false}
+use Prim.Native.Nat.{ℕ, _/_, _≤_, _<_}
+use native.Mathlib.Nat.{mod-lt}
+use lib.Dec.{eqb}
+use lib.ListN.{length}
+use borrow.Author.Tests.{eqb-true, eqb-false}
+use Rattle.waymap.specs.Bits.{bit}
+use Rattle.waymap.proofs.Booleans.{cases}
+use Rattle.replacement.specs.Rule.{Rule, ruleOf}
+use Rattle.row.specs.Row as Row
+use Rattle.row.specs.Row.{Row, Effect, asRead}
+use Rattle.row.specs.Answer.{answerOf}
+use Rattle.row.specs.declared.Maps.{Maps}
+use Rattle.row.specs.declared.Answer.{Answer}
+use Rattle.row.proofs.LineLaws.{Cut, cut-read, access-long, flush-long}
+use Rattle.cache.specs.Geometry.{setOf, tagOf}
+use Rattle.cache.specs.Tables.{Tables, rowAt, putRow}
+use Rattle.cache.specs.Domains.{domainOf, putDomain, policies, counted}
+use Rattle.cache.specs.Step.{State, Outcome, onSet, rowEffect, useLine}
+use Rattle.cache.specs.Inside.{Limited, Shaped, lineWork}
+use Rattle.cache.specs.declared.Geometry.{Geometry}
+use Rattle.cache.specs.declared.Domain.{Domain}
+use Rattle.cache.specs.declared.Domains.{Domains}
+use Rattle.cache.proofs.SetLaws.{row-long, put-shaped, row-put-same, row-put-other}
+use Rattle.cache.proofs.DomainLaws as DomainLaws
+use Rattle.isolation.proofs.Relation.{Whole, Separate, Unheld, Unwritten, Alike, Related}
+use Rattle.isolation.proofs.RowUnwinding.{own-access, own-flush, other-access, other-flush}
+
+-- a policy as read is cut
+pub policy-cut : (W : ℕ) (ds : Domains) (e : ℕ) → Cut W (policies W ds e)
+unfolding policies
+policy-cut W ds e = cut-read W (record { hit = domainOf ds e .hit; fill = domainOf ds e .fill })
+
+-- ---- the state after a domain's work on one set
+
+module _ (g : Geometry) (s : State) (whole : Whole g s) (e : ℕ) (k : e < 16) (set : ℕ) (h : set < g .sets) (x : Effect) (long : length (x .row .tags) ≡ g .ways) where
+  abbrev after : State
+  after = onSet g e set x s .state
+
+  line-whole : Whole g (onSet g e set x s .state)
+  unfolding onSet
+  line-whole = record {
+    shaped = put-shaped g (s .tables) (x .row) (whole .shaped) set h long;
+    sixteen = DomainLaws.put-sixteen (s .domains) e (record { hit = domainOf (s .domains) e .hit; fill = domainOf (s .domains) e .fill; counts = counted (x .answer) (domainOf (s .domains) e .counts) }) (whole .sixteen);
+  }
+
+  line-domain : domainOf (onSet g e set x s .state .domains) e ≡ record { hit = domainOf (s .domains) e .hit; fill = domainOf (s .domains) e .fill; counts = counted (x .answer) (domainOf (s .domains) e .counts) }
+  unfolding onSet
+  line-domain = DomainLaws.put-same (s .domains) e (record { hit = domainOf (s .domains) e .hit; fill = domainOf (s .domains) e .fill; counts = counted (x .answer) (domainOf (s .domains) e .counts) }) (whole .sixteen) k
+
+  line-domain-other : (f : ℕ) → (f ≡ e → ⊥) → domainOf (onSet g e set x s .state .domains) f ≡ domainOf (s .domains) f
+  unfolding onSet
+  line-domain-other f n = DomainLaws.put-other (s .domains) e (record { hit = domainOf (s .domains) e .hit; fill = domainOf (s .domains) e .fill; counts = counted (x .answer) (domainOf (s .domains) e .counts) }) f n
+
+  -- the policies stay
+  line-policy : (f : ℕ) → policies (g .ways) (onSet g e set x s .state .domains) f ≡ policies (g .ways) (s .domains) f
+  unfolding policies
+  line-policy f =
+      cases (eqb f e)
+      (λ t. rw (eqb-true f e t) (ap (λ (y : Domain). asRead (g .ways) (record { hit = y .hit; fill = y .fill })) line-domain))
+      (λ t. ap (λ (y : Domain). asRead (g .ways) (record { hit = y .hit; fill = y .fill })) (line-domain-other f (eqb-false f e t)))
+
+  line-row : rowAt (g .ways) set (onSet g e set x s .state .tables) ≡ x .row
+  unfolding onSet
+  line-row = row-put-same g (s .tables) (x .row) (whole .shaped) set h long
+
+  line-row-other : (u : ℕ) → (u ≡ set → ⊥) → rowAt (g .ways) u (onSet g e set x s .state .tables) ≡ rowAt (g .ways) u (s .tables)
+  unfolding onSet
+  line-row-other u n = row-put-other g (s .tables) (x .row) (whole .shaped) set h long u n
+
+-- the work keeps the row's length
+work-long : (flushes store : Bool) (R : Rule) (p : Maps) (tag : ℕ) (r : Row) → length (lineWork flushes R store p tag r .row .tags) ≡ length (r .tags)
+work-long true store R p tag r = flush-long p tag r
+work-long false store R p tag r = access-long R p tag store r
+
+module _ (g : Geometry) (l : Limited g) (d : ℕ) (low : d < 16) (flushes store : Bool) (arg : ℕ) (a b : State) (rel : Related g d a b) where
+  abbrev work : Maps → ℕ → Row → Effect
+  work = lineWork flushes (ruleOf (g .rule) (g .ways)) store
+
+  at : ℕ
+  at = setOf g arg
+
+  inside : setOf g arg < g .sets
+  unfolding setOf
+  inside = mod-lt (arg / 64) (l .some-set)
+
+  abbrev policy : ℕ → Maps
+  policy = policies (g .ways) (a .domains)
+
+  long-a : (s : ℕ) → s < g .sets → length (rowAt (g .ways) s (a .tables) .tags) ≡ g .ways
+  long-a s h = row-long g (rel .whole-a .shaped) s h
+
+  long-b : (s : ℕ) → s < g .sets → length (rowAt (g .ways) s (b .tables) .tags) ≡ g .ways
+  long-b s h = row-long g (rel .whole-b .shaped) s h
+
+  -- ---- the domain's own
+
+  own-row : (r q : Row) → length (r .tags) ≡ g .ways → length (q .tags) ≡ g .ways → Alike g d policy r q → (tag : ℕ)
+      → (work (policy d) tag r .answer ≡ work (policy d) tag q .answer) × Alike g d policy (work (policy d) tag r .row) (work (policy d) tag q .row)
+  own-row r q lr lq x tag = pick flushes
+    where
+      pick : (f : Bool)
+          → (lineWork f (ruleOf (g .rule) (g .ways)) store (policy d) tag r .answer ≡ lineWork f (ruleOf (g .rule) (g .ways)) store (policy d) tag q .answer)
+          × Alike g d policy (lineWork f (ruleOf (g .rule) (g .ways)) store (policy d) tag r .row) (lineWork f (ruleOf (g .rule) (g .ways)) store (policy d) tag q .row)
+      pick true = own-flush g l d low policy (policy-cut (g .ways) (a .domains)) (rel .separate) r q lr lq x tag
+      pick false = own-access g l d low policy (policy-cut (g .ways) (a .domains)) (rel .separate) r q lr lq x tag store
+
+  own-pair : (work (policy d) (tagOf g arg) (rowAt (g .ways) (setOf g arg) (a .tables)) .answer ≡ work (policy d) (tagOf g arg) (rowAt (g .ways) (setOf g arg) (b .tables)) .answer)
+      × Alike g d policy (work (policy d) (tagOf g arg) (rowAt (g .ways) (setOf g arg) (a .tables)) .row) (work (policy d) (tagOf g arg) (rowAt (g .ways) (setOf g arg) (b .tables)) .row)
+  own-pair = own-row (rowAt (g .ways) (setOf g arg) (a .tables)) (rowAt (g .ways) (setOf g arg) (b .tables)) (long-a (setOf g arg) inside) (long-b (setOf g arg) inside) (rel .alike (setOf g arg) inside) (tagOf g arg)
+
+  -- two states whose sets are alike and whose policies are those of a, with one set worked on
+  module _ (e : ℕ) (k : e < 16) (x : Effect) (long-x : length (x .row .tags) ≡ g .ways) where
+    abbrev a′ : State
+    a′ = onSet g e (setOf g arg) x a .state
+
+    policies-stay : policies (g .ways) (onSet g e (setOf g arg) x a .state .domains) ≡ policies (g .ways) (a .domains)
+    policies-stay = fun-ext (line-policy g a (rel .whole-a) e k (setOf g arg) inside x long-x)
+
+    separate-stays : Separate g (policies (g .ways) (onSet g e (setOf g arg) x a .state .domains))
+    separate-stays = subst (λ (p : ℕ → Maps). Separate g p) (sym policies-stay) (rel .separate)
+
+    -- rows that are alike under the policies before are alike under those after
+    alike-stays : {r q : Row} → Alike g d policy r q → Alike g d (policies (g .ways) (onSet g e (setOf g arg) x a .state .domains)) r q
+    alike-stays {r} {q} z = subst (λ (p : ℕ → Maps). Alike g d p r q) (sym policies-stay) z
+
+  own-on : (x y : Effect) → length (x .row .tags) ≡ g .ways → length (y .row .tags) ≡ g .ways → x .answer ≡ y .answer → Alike g d policy (x .row) (y .row)
+      → Related g d (onSet g d (setOf g arg) x a .state) (onSet g d (setOf g arg) y b .state)
+  own-on x y lx ly same z = record {
+    whole-a = line-whole g a (rel .whole-a) d low (setOf g arg) inside x lx;
+    whole-b = line-whole g b (rel .whole-b) d low (setOf g arg) inside y ly;
+    policy-same = λ e.
+        line-policy g a (rel .whole-a) d low (setOf g arg) inside x lx e ∙ rel .policy-same e
+        ∙ sym (line-policy g b (rel .whole-b) d low (setOf g arg) inside y ly e);
+    separate = separate-stays d low x lx;
+    domain-same =
+        line-domain g a (rel .whole-a) d low (setOf g arg) inside x lx
+        ∙ ap₂ (λ (m : Domain) (w : Answer). domain-of m w) (rel .domain-same) same
+        ∙ sym (line-domain g b (rel .whole-b) d low (setOf g arg) inside y ly);
+    alike = λ s h. alike-stays d low x lx
+        (cases (eqb s (setOf g arg))
+        (λ t. rw (eqb-true s (setOf g arg) t, line-row g a (rel .whole-a) d low (setOf g arg) inside x lx, line-row g b (rel .whole-b) d low (setOf g arg) inside y ly) z)
+        (λ t. rw (line-row-other g a (rel .whole-a) d low (setOf g arg) inside x lx s (eqb-false s (setOf g arg) t), line-row-other g b (rel .whole-b) d low (setOf g arg) inside y ly s (eqb-false s (setOf g arg) t)) (rel .alike s h)));
+  }
+    where
+      domain-of : Domain → Answer → Domain
+      domain-of m w = record { hit = m .hit; fill = m .fill; counts = counted w (m .counts) }
+
+  -- a step of the domain itself: the same answer, and the relation is kept
+  pub own-line : (useLine g work d arg a .answer ≡ useLine g work d arg b .answer) × Related g d (useLine g work d arg a .state) (useLine g work d arg b .state)
+  unfolding useLine rowEffect onSet
+  own-line =
+      rw (← (rel .policy-same d)) (
+        ap answerOf (own-pair .0),
+        own-on (work (policy d) (tagOf g arg) (rowAt (g .ways) (setOf g arg) (a .tables))) (work (policy d) (tagOf g arg) (rowAt (g .ways) (setOf g arg) (b .tables)))
+            (work-long flushes store (ruleOf (g .rule) (g .ways)) (policy d) (tagOf g arg) (rowAt (g .ways) (setOf g arg) (a .tables)) ∙ long-a (setOf g arg) inside)
+            (work-long flushes store (ruleOf (g .rule) (g .ways)) (policy d) (tagOf g arg) (rowAt (g .ways) (setOf g arg) (b .tables)) ∙ long-b (setOf g arg) inside)
+            (own-pair .0) (own-pair .1),
+      )
+
+  -- ---- a neighbour's, on one side
+
+  other-row : (e : ℕ) → e < 16 → (e ≡ d → ⊥) → (r q : Row) → length (r .tags) ≡ g .ways → length (q .tags) ≡ g .ways → Alike g d policy r q → (tag : ℕ)
+      → Alike g d policy (work (policy e) tag r .row) q
+  other-row e k n r q lr lq x tag = pick flushes
+    where
+      pick : (f : Bool) → Alike g d policy (lineWork f (ruleOf (g .rule) (g .ways)) store (policy e) tag r .row) q
+      pick true = other-flush g l d low policy (policy-cut (g .ways) (a .domains)) (rel .separate) r q lr lq x tag e k n
+      pick false = other-access g l d low policy (policy-cut (g .ways) (a .domains)) (rel .separate) r q lr lq x tag e k n store
+
+  other-on : (e : ℕ) (k : e < 16) → (e ≡ d → ⊥) → (x : Effect) → length (x .row .tags) ≡ g .ways → Alike g d policy (x .row) (rowAt (g .ways) (setOf g arg) (b .tables))
+      → Related g d (onSet g e (setOf g arg) x a .state) b
+  other-on e k n x lx z = record {
+    whole-a = line-whole g a (rel .whole-a) e k (setOf g arg) inside x lx;
+    whole-b = rel .whole-b;
+    policy-same = λ f. line-policy g a (rel .whole-a) e k (setOf g arg) inside x lx f ∙ rel .policy-same f;
+    separate = separate-stays e k x lx;
+    domain-same = line-domain-other g a (rel .whole-a) e k (setOf g arg) inside x lx d (λ q. n (sym q)) ∙ rel .domain-same;
+    alike = λ s h. alike-stays e k x lx
+        (cases (eqb s (setOf g arg))
+        (λ t. rw (eqb-true s (setOf g arg) t, line-row g a (rel .whole-a) e k (setOf g arg) inside x lx) z)
+        (λ t. rw (line-row-other g a (rel .whole-a) e k (setOf g arg) inside x lx s (eqb-false s (setOf g arg) t)) (rel .alike s h)));
+  }
+
+  -- a neighbour's access or flush keeps the relation
+  pub other-line : (e : ℕ) → e < 16 → (e ≡ d → ⊥) → Related g d (useLine g work e arg a .state) b
+  unfolding useLine rowEffect
+  other-line e k n =
+      other-on e k n (work (policy e) (tagOf g arg) (rowAt (g .ways) (setOf g arg) (a .tables)))
+      (work-long flushes store (ruleOf (g .rule) (g .ways)) (policy e) (tagOf g arg) (rowAt (g .ways) (setOf g arg) (a .tables)) ∙ long-a (setOf g arg) inside)
+      (other-row e k n (rowAt (g .ways) (setOf g arg) (a .tables)) (rowAt (g .ways) (setOf g arg) (b .tables)) (long-a (setOf g arg) inside) (long-b (setOf g arg) inside) (rel .alike (setOf g arg) inside) (tagOf g arg))

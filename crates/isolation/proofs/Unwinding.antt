@@ -1,0 +1,197 @@
+-- The unwinding lemmas of Goguen and Meseguer, for one step: `output-consistent`, `step-consistent` and `locally-respects`.
+use mathlib.Core.Path.{_≡_, refl, sym, ap, ap₂, subst, fun-ext, _∙_}
+use mathlib.Core.Bool.{Bool, true, false, cond, not, _&&_, _||_, true≢false, false≢true}
+use mathlib.Core.List.{List, [], _∷_}
+use Prim.Native.Nat.{ℕ, zero, suc, _*_, _≤_, _<_}
+use native.Mathlib.Omega.{arith}
+use lib.Dec.{eqb, leb, ltb}
+use lib.ListN.{length}
+use borrow.Author.Tests.{eqb-true, eqb-false, eq-eqb, ne-eqb, leb-true, leb-false, ltb-true, ltb-false, le-ltb, le-leb, lt-leb}
+use Rattle.waymap.proofs.Booleans.{cases}
+use Rattle.replacement.specs.Rule.{Rule, ruleOf}
+use Rattle.row.specs.Answer.{answerOf}
+use Rattle.row.specs.declared.Maps.{Maps}
+use Rattle.row.specs.declared.Answer.the-variants.{Refused}
+use Rattle.cache.specs.Geometry.{within}
+use Rattle.cache.specs.Tables.{Tables, Lengths, lengths, sized}
+use Rattle.cache.specs.Domains.{domainOf, policies}
+use Rattle.cache.specs.Refusal.{Kind, access, flush, policy, unknown, kindOf, useRefusal, policyRefusal, refusalBy, refusal}
+use Rattle.cache.specs.Step.{State, Outcome, answers, useLine, changePolicy, stepBy, decided, step}
+use Rattle.cache.specs.Run.{Command, stepOn}
+use Rattle.cache.specs.Inside.{Limited, Shaped, lineWork}
+use Rattle.cache.specs.declared.Geometry.{Geometry}
+use Rattle.cache.specs.declared.Counts.{Counts}
+use Rattle.cache.specs.declared.Domain.{Domain}
+use Rattle.cache.proofs.GeometryLaws.{limited}
+use Rattle.isolation.specs.Purge.{belongs, keeps}
+use Rattle.isolation.specs.StruckOut.{numberOf}
+use Rattle.isolation.proofs.Relation.{Whole, Separate, Related}
+use Rattle.isolation.proofs.LineUnwinding.{own-line, other-line}
+use Rattle.isolation.proofs.PolicyUnwinding.{policy-related, policy-answer}
+
+module _ (g : Geometry) (limits : within g ≡ true) (d : ℕ) (low : d < 16) where
+  l : Limited g
+  l = limited g limits
+
+  -- ---- what a step comes to, in a state of which the tables have their lengths
+
+  module _ (c : Command) (s : State) (w : Whole g s) where
+    sized-here : sized g (lengths (s .tables)) ≡ true
+    unfolding sized
+    sized-here =
+        rw (w .shaped .tags-long, w .shaped .valid-long, w .shaped .dirty-long, w .shaped .words-long, eq-eqb (g .sets * g .ways) (g .sets * g .ways) refl, eq-eqb (g .sets) (g .sets) refl)
+
+    -- a domain of 16 or more is refused by 3
+    step-beyond : 16 ≤ c .domain → stepOn g c s ≡ answers (Refused 3) s
+    unfolding step refusal decided
+    step-beyond h = rw (limits, sized-here, le-leb 16 (c .domain) h)
+
+    -- another's step is decided by its kind
+    step-within : c .domain < 16 → stepOn g c s ≡ decided (refusalBy (kindOf (c .kind)) g (policies (g .ways) (s .domains)) (domainOf (s .domains) (c .domain) .counts) (c .domain) (c .argument)) (stepBy (kindOf (c .kind)) g (c .domain) (c .argument) s) s
+    unfolding step refusal
+    step-within h = rw (limits, sized-here, lt-leb 16 (c .domain) h)
+
+  -- ---- two outcomes are consistent
+
+  record Consistent (o p : Outcome) : Type 0 where
+    answer-same : o .answer ≡ p .answer
+    related : Related g d (o .state) (p .state)
+
+  -- a verdict that both runs share
+  module _ (a b : State) (rel : Related g d a b) where
+    both-decided : (n : ℕ) (o p : Outcome) → (n ≡ 0 → Consistent o p) → Consistent (decided n o a) (decided n p b)
+    unfolding decided
+    both-decided n o p f = cases (eqb n 0) (λ t. rw t (f (eqb-true n 0 t))) (λ t. rw t (record { answer-same = refl; related = rel }))
+
+    lengths-same : lengths (a .tables) ≡ lengths (b .tables)
+    lengths-same = λ i. record {
+      tags = (rel .whole-a .shaped .tags-long ∙ sym (rel .whole-b .shaped .tags-long)) i;
+      valid = (rel .whole-a .shaped .valid-long ∙ sym (rel .whole-b .shaped .valid-long)) i;
+      dirty = (rel .whole-a .shaped .dirty-long ∙ sym (rel .whole-b .shaped .dirty-long)) i;
+      words = (rel .whole-a .shaped .words-long ∙ sym (rel .whole-b .shaped .words-long)) i;
+    }
+
+    policies-same : policies (g .ways) (a .domains) ≡ policies (g .ways) (b .domains)
+    policies-same = fun-ext (rel .policy-same)
+
+    -- ---- a step of the domain itself
+
+    own-by : (k : Kind) (arg : ℕ)
+        → Consistent (decided (refusalBy k g (policies (g .ways) (a .domains)) (domainOf (a .domains) d .counts) d arg) (stepBy k g d arg a) a)
+        (decided (refusalBy k g (policies (g .ways) (b .domains)) (domainOf (b .domains) d .counts) d arg) (stepBy k g d arg b) b)
+    unfolding refusalBy stepBy
+    own-by (access store) arg =
+        rw (← policies-same, ← (rel .domain-same))
+        (both-decided (useRefusal (policies (g .ways) (a .domains) d) (domainOf (a .domains) d .counts)) _ _
+        (λ z. let r = own-line g l d low false store arg a b rel in record { answer-same = r .0; related = r .1 }))
+    own-by flush arg =
+        rw (← policies-same, ← (rel .domain-same))
+        (both-decided (useRefusal (policies (g .ways) (a .domains) d) (domainOf (a .domains) d .counts)) _ _
+        (λ z. let r = own-line g l d low true false arg a b rel in record { answer-same = r .0; related = r .1 }))
+    own-by policy arg =
+        rw (← policies-same)
+        (both-decided (policyRefusal g (policies (g .ways) (a .domains)) d arg) _ _
+        (λ z. record { answer-same = policy-answer g l d low d low arg a b rel z refl; related = policy-related g l d low d low arg a b rel z }))
+    own-by unknown arg = both-decided 4 _ _ (λ z. absurd (omega arith))
+
+    own-step : (c : Command) → c .domain ≡ d → Consistent (stepOn g c a) (stepOn g c b)
+    own-step c e =
+        rw (step-within c a (rel .whole-a) (rw e low), step-within c b (rel .whole-b) (rw e low), e) (own-by (kindOf (c .kind)) (c .argument))
+
+    -- ---- a kept step of another domain
+
+    -- the same number, and the relation is kept; what it drops may differ
+    record Agreed (o p : Outcome) : Type 0 where
+      number-same : numberOf (o .answer) ≡ numberOf (p .answer)
+      related : Related g d (o .state) (p .state)
+
+    other-decided : (n : ℕ) (o p : Outcome) → (n ≡ 0 → Agreed o p) → Agreed (decided n o a) (decided n p b)
+    unfolding decided
+    other-decided n o p f = cases (eqb n 0) (λ t. rw t (f (eqb-true n 0 t))) (λ t. rw t (record { number-same = refl; related = rel }))
+
+    -- an accepted change of policy has no number
+    policy-number : (e arg : ℕ) → numberOf (changePolicy g e arg a .answer) ≡ numberOf (changePolicy g e arg b .answer)
+    unfolding changePolicy numberOf
+    policy-number e arg = refl
+
+    other-policy : (e : ℕ) → e < 16 → (arg : ℕ)
+        → Agreed (decided (policyRefusal g (policies (g .ways) (a .domains)) e arg) (changePolicy g e arg a) a)
+        (decided (policyRefusal g (policies (g .ways) (b .domains)) e arg) (changePolicy g e arg b) b)
+    other-policy e h arg =
+        rw (← policies-same)
+        (other-decided (policyRefusal g (policies (g .ways) (a .domains)) e arg) (changePolicy g e arg a) (changePolicy g e arg b)
+        (λ z. record { number-same = policy-number e arg; related = policy-related g l d low e h arg a b rel z }))
+
+    other-unknown : (o p : Outcome) → Agreed (decided 4 o a) (decided 4 p b)
+    other-unknown o p = other-decided 4 o p (λ z. absurd (omega arith))
+
+    -- a kind that is no access and no flush is a policy change or unknown
+    other-by : (k e arg : ℕ) → 4 ≤ k → e < 16
+        → Agreed (decided (refusalBy (kindOf k) g (policies (g .ways) (a .domains)) (domainOf (a .domains) e .counts) e arg) (stepBy (kindOf k) g e arg a) a)
+        (decided (refusalBy (kindOf k) g (policies (g .ways) (b .domains)) (domainOf (b .domains) e .counts) e arg) (stepBy (kindOf k) g e arg b) b)
+    unfolding kindOf refusalBy stepBy
+    other-by k e arg h low-e =
+        rw (le-ltb k 3 (omega arith), ne-eqb k 3 (λ q. omega arith))
+        (cases (eqb k 16)
+        (λ t. rw t (other-policy e low-e arg))
+        (λ t. rw t (other-unknown (answers (Refused 4) a) (answers (Refused 4) b))))
+
+    kept-step : (c : Command) → 4 ≤ c .kind → Agreed (stepOn g c a) (stepOn g c b)
+    kept-step c h =
+        cases (leb 16 (c .domain))
+        (λ t. rw (step-beyond c a (rel .whole-a) (leb-true 16 (c .domain) t), step-beyond c b (rel .whole-b) (leb-true 16 (c .domain) t))
+        (record { number-same = refl; related = rel }))
+        (λ t. rw (step-within c a (rel .whole-a) (leb-false 16 (c .domain) t), step-within c b (rel .whole-b) (leb-false 16 (c .domain) t))
+        (other-by (c .kind) (c .domain) (c .argument) h (leb-false 16 (c .domain) t)))
+
+    -- ---- a neighbour's access or flush, in one run alone
+
+    one-decided : (n : ℕ) (o : Outcome) → Related g d (o .state) b → Related g d (decided n o a .state) b
+    unfolding decided
+    one-decided n o f = cases (eqb n 0) (λ t. rw t f) (λ t. rw t rel)
+
+    dropped-by : (k e arg : ℕ) → k < 4 → e < 16 → (e ≡ d → ⊥)
+        → Related g d (decided (refusalBy (kindOf k) g (policies (g .ways) (a .domains)) (domainOf (a .domains) e .counts) e arg) (stepBy (kindOf k) g e arg a) a .state) b
+    unfolding kindOf stepBy
+    dropped-by k e arg h low-e n =
+        cases (ltb k 3)
+        (λ t. rw t (one-decided _ (useLine g (lineWork false (ruleOf (g .rule) (g .ways)) (eqb k 2)) e arg a) (other-line g l d low false (eqb k 2) arg a b rel e low-e n)))
+        (λ t. rw (t, eq-eqb k 3 (omega (arith, ltb-false k 3 t)))
+        (one-decided _ (useLine g (lineWork true (ruleOf (g .rule) (g .ways)) false) e arg a) (other-line g l d low true false arg a b rel e low-e n)))
+
+    dropped-step : (c : Command) → c .kind < 4 → (c .domain ≡ d → ⊥) → Related g d (stepOn g c a .state) b
+    dropped-step c h n =
+        cases (leb 16 (c .domain))
+        (λ t. rw (step-beyond c a (rel .whole-a) (leb-true 16 (c .domain) t)) rel)
+        (λ t. rw (step-within c a (rel .whole-a) (leb-false 16 (c .domain) t))
+        (dropped-by (c .kind) (c .domain) (c .argument) h (leb-false 16 (c .domain) t) n))
+
+    -- ---- the three unwinding lemmas
+
+    -- a step of the chosen domain answers the same in two related states
+    pub output-consistent : (c : Command) → belongs d c ≡ true → stepOn g c a .answer ≡ stepOn g c b .answer
+    output-consistent c t = own-step c (eqb-true (c .domain) d t) .answer-same
+
+    -- a policy change of another domain is accepted or refused alike
+    pub verdict-consistent : (c : Command) → eqb (c .kind) 16 ≡ true → numberOf (stepOn g c a .answer) ≡ numberOf (stepOn g c b .answer)
+    verdict-consistent c t = kept-step c (rw (eqb-true (c .kind) 16 t) (omega arith)) .number-same
+
+    -- a step that stays leads from related states to related states
+    pub step-consistent : (c : Command) → keeps d c ≡ true → Related g d (stepOn g c a .state) (stepOn g c b .state)
+    unfolding keeps
+    step-consistent c t =
+        cases (belongs d c)
+        (λ u. own-step c (eqb-true (c .domain) d u) .related)
+        (λ u. cases (ltb (c .kind) 4)
+        (λ v. absurd (false≢true (rw (u, v) at t)))
+        (λ v. kept-step c (ltb-false (c .kind) 4 v) .related))
+
+    -- a step that is struck out leads to a state that is related to where it started
+    pub locally-respects : (c : Command) → keeps d c ≡ false → Related g d (stepOn g c a .state) b
+    unfolding keeps
+    locally-respects c t =
+        cases (belongs d c)
+        (λ u. absurd (true≢false (rw u at t)))
+        (λ u. cases (ltb (c .kind) 4)
+        (λ v. dropped-step c (ltb-true (c .kind) 4 v) (eqb-false (c .domain) d u))
+        (λ v. absurd (true≢false (rw (u, v) at t))))

@@ -1,0 +1,3 @@
+-- The struck-out run: document 01, "The struck-out run".
+pub mod Purge
+pub mod StruckOut

@@ -1,0 +1,50 @@
+-- What is equal in the run and in the struck-out run.
+use mathlib.Core.Path.{_≡_}
+use mathlib.Core.Bool.{Bool, true, cond, not, _&&_}
+use mathlib.Core.List.{List, [], _∷_}
+use Prim.Native.Nat.{ℕ, _<_}
+use lib.Dec.{eqb}
+use Rattle.replacement.specs.Rule.{Rule, ruleOf}
+use Rattle.row.specs.View.{SameView}
+use Rattle.cache.specs.Tables.{rowAt}
+use Rattle.cache.specs.Domains.{domainOf, policies}
+use Rattle.cache.specs.Step.{State, Outcome}
+use Rattle.cache.specs.Run.{Command, stepOn, finally}
+use Rattle.cache.specs.Fresh.{fresh}
+use Rattle.cache.specs.declared.Geometry.{Geometry}
+use Rattle.isolation.specs.Purge.{belongs, purge}
+
+-- "the whole answers to the steps that belong to the chosen domain, first to last, refusal numbers too"
+unfoldable pub ownAnswers : Geometry → ℕ → List Command → State → List (List ℕ)
+ownAnswers g d [] s = []
+ownAnswers g d (c ∷ cs) s =
+    let o = stepOn g c s in
+    let rest = ownAnswers g d cs (o .state) in
+    cond (belongs d c) (o .answer ∷ rest) rest
+
+-- Whether an answer is a refusal, word 7, and its number if so; 0 for a step that is accepted.
+unfoldable pub numberOf : List ℕ → ℕ
+numberOf [] = 0
+numberOf (w ∷ []) = 0
+numberOf (w ∷ n ∷ rest) = cond (eqb w 7) n 0
+
+-- "for each policy change of another domain, whether it is accepted, and the number if it is not"
+unfoldable pub verdicts : Geometry → ℕ → List Command → State → List ℕ
+verdicts g d [] s = []
+verdicts g d (c ∷ cs) s =
+    let o = stepOn g c s in
+    let rest = verdicts g d cs (o .state) in
+    cond (eqb (c .kind) 16 && not (belongs d c)) (numberOf (o .answer) ∷ rest) rest
+
+-- What the chosen domain can see at the end: "both its maps and all its counts; then, in every set, the valid bit, dirty bit and tag of
+-- each of its ways, which are the ways in its hit map at that moment, and its own replacement bits".
+pub record SameTo (g : Geometry) (d : ℕ) (a b : State) : Type 0 where
+  pub domain : domainOf (a .domains) d ≡ domainOf (b .domains) d
+  pub sets : (s : ℕ) → s < g .sets
+      → SameView (ruleOf (g .rule) (g .ways)) (policies (g .ways) (a .domains) d) (rowAt (g .ways) s (a .tables)) (rowAt (g .ways) s (b .tables))
+
+-- A list of steps and its purge, each from a fresh cache of the same geometry, are the same to the chosen domain.
+pub record StruckOut (g : Geometry) (d : ℕ) (cs : List Command) : Type 0 where
+  pub answers-same : ownAnswers g d cs (fresh g) ≡ ownAnswers g d (purge d cs) (fresh g)
+  pub verdicts-same : verdicts g d cs (fresh g) ≡ verdicts g d (purge d cs) (fresh g)
+  pub finally-same : SameTo g d (finally g cs (fresh g)) (finally g (purge d cs) (fresh g))

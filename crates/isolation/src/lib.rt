@@ -1,0 +1,1 @@
+// The struck-out run.
