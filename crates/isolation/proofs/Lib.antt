@@ -5,3 +5,4 @@ pub mod LineUnwinding
 pub mod PolicyUnwinding
 pub mod Unwinding
 pub mod Isolation
+pub mod Witness

@@ -1,0 +1,95 @@
+-- The theorem is neither empty nor slack: one list of steps, computed in both runs.
+use mathlib.Core.Path.{_≡_, refl}
+use mathlib.Core.Bool.{true, false, xor}
+use mathlib.Core.List.{List, [], _∷_}
+use Prim.Native.Nat.{ℕ, _+_, _*_}
+use lib.ListN.{length}
+use Rattle.waymap.specs.Bits.{bit, word, any, lowest, count, put, reaches}
+use Rattle.replacement.specs.Tree as Tree
+use Rattle.replacement.specs.Calls.{isWays, inLimits}
+use Rattle.row.specs.Row as Row
+use Rattle.cache.specs.Geometry.{isPower, within, setOf, tagOf}
+use Rattle.cache.specs.Tables.{sized, rowAt, putRow, eachSet, total}
+use Rattle.cache.specs.Domains.{domainOf, putDomain, policies, isFull, counted}
+use Rattle.cache.specs.Refusal.{kindOf, newMaps, badArgument, sharesWay, sharesNode, useRefusal, policyRefusal, refusalBy, refusal}
+use Rattle.cache.specs.Step.{State, onSet, rowEffect, useLine, newDomain, changePolicy, stepBy, decided, step}
+use Rattle.cache.specs.Run.{Command, answersOf, finally}
+use Rattle.cache.specs.Fresh.{freshTables, freshDomains, fresh}
+use Rattle.cache.specs.declared.Geometry.{Geometry}
+use Rattle.cache.specs.declared.Counts.{Counts}
+use Rattle.isolation.specs.Purge.{keeps, purge}
+use Rattle.isolation.specs.StruckOut.{ownAnswers, numberOf, verdicts}
+
+abbrev does : ℕ → ℕ → ℕ → Command
+does d k a = record { domain = d; kind = k; argument = a }
+
+-- the argument of a policy with both maps m
+abbrev both : ℕ → ℕ
+both m = m + 65536 * m
+
+-- one set of four ways under Tree-PLRU
+abbrev small : Geometry
+small = record { sets = 1; ways = 4; rule = 0 }
+
+-- Domain 0 gets ways 0 and 1, and domain 1 ways 2 and 3; both work; domain 1 gives way 3 up and domain 0 takes it; both work on.
+abbrev steps : List Command
+steps =
+    does 0 16 (both 3) ∷ does 1 16 (both 12) ∷ does 0 2 0 ∷ does 1 2 0 ∷ does 0 1 64 ∷ does 1 1 64 ∷ does 0 1 128 ∷ does 0 3 64 ∷ does 0 1 128
+    ∷ does 1 16 (both 4) ∷ does 0 16 (both 11) ∷ does 1 1 192 ∷ does 0 1 192 ∷ []
+
+-- the two runs' ends
+abbrev whole : State
+whole = finally small steps (fresh small)
+
+abbrev struck : State
+struck = finally small (purge 0 steps) (fresh small)
+
+-- ---- not empty
+
+-- the purge drops three steps; the domain fills, evicts, flushes and hits; and the neighbour's steps count for the neighbour
+record NotEmpty : Type 0 where
+  dropped : (length steps ≡ 13) × (length (purge 0 steps) ≡ 10)
+  works : ownAnswers small 0 steps (fresh small)
+      ≡ (6 ∷ 0 ∷ 0 ∷ []) ∷ (1 ∷ 0 ∷ []) ∷ (1 ∷ 1 ∷ []) ∷ (2 ∷ 0 ∷ 0 ∷ 1 ∷ []) ∷ (4 ∷ 1 ∷ 0 ∷ []) ∷ (0 ∷ 0 ∷ []) ∷ (6 ∷ 0 ∷ 0 ∷ []) ∷ (1 ∷ 1 ∷ []) ∷ []
+  neighbour : domainOf (whole .domains) 1 .counts ≡ record { hits = 0; misses = 3; evicted = 1; written = 1; flushed = 0 }
+  neighbour-struck : domainOf (struck .domains) 1 .counts ≡ record { hits = 0; misses = 0; evicted = 0; written = 0; flushed = 0 }
+  handed-over : policies 4 (whole .domains) 0 .hit ≡ 11
+
+not-empty : NotEmpty
+unfolding ownAnswers verdicts numberOf purge keeps answersOf finally step decided stepBy changePolicy newDomain useLine rowEffect onSet refusal refusalBy policyRefusal useRefusal sharesNode sharesWay badArgument newMaps kindOf counted isFull policies putDomain domainOf total eachSet putRow rowAt sized tagOf setOf within isPower freshTables freshDomains fresh isWays inLimits Row.asRead Row.matches Row.isHit Row.hitWay Row.hitAt Row.filled Row.vacant Row.fillAt Row.evictAt Row.accessBy Row.access Row.flushAt Row.flush Row.moved Row.without Row.wiped Row.dropped Row.droppedDirty Row.cleaned bit word any lowest count put reaches xor Tree.passes Tree.under Tree.holds Tree.free Tree.forcedRight Tree.walk Tree.walked Tree.victim Tree.touch Tree.reset Tree.shares
+not-empty = record { dropped = (refl, refl); works = refl; neighbour = refl; neighbour-struck = refl; handed-over = refl }
+
+-- ---- not slack: what the theorem leaves out does differ
+
+-- a way outside the domain's hit map: way 2 is valid in one run alone
+record OtherWays : Type 0 where
+  run : bit (rowAt 4 0 (whole .tables) .valid) 2 ≡ true
+  purged : bit (rowAt 4 0 (struck .tables) .valid) 2 ≡ false
+
+other-ways : OtherWays
+unfolding ownAnswers verdicts numberOf purge keeps answersOf finally step decided stepBy changePolicy newDomain useLine rowEffect onSet refusal refusalBy policyRefusal useRefusal sharesNode sharesWay badArgument newMaps kindOf counted isFull policies putDomain domainOf total eachSet putRow rowAt sized tagOf setOf within isPower freshTables freshDomains fresh isWays inLimits Row.asRead Row.matches Row.isHit Row.hitWay Row.hitAt Row.filled Row.vacant Row.fillAt Row.evictAt Row.accessBy Row.access Row.flushAt Row.flush Row.moved Row.without Row.wiped Row.dropped Row.droppedDirty Row.cleaned bit word any lowest count put reaches xor Tree.passes Tree.under Tree.holds Tree.free Tree.forcedRight Tree.walk Tree.walked Tree.victim Tree.touch Tree.reset Tree.shares
+other-ways = record { run = refl; purged = refl }
+
+-- replacement bits that are not its own: node 2, free for domain 1 alone, differs
+abbrev brief : List Command
+brief = does 0 16 (both 3) ∷ does 1 16 (both 12) ∷ does 0 2 0 ∷ does 1 2 0 ∷ []
+
+record OtherBits : Type 0 where
+  run : bit (rowAt 4 0 (finally small brief (fresh small) .tables) .word) 2 ≡ true
+  purged : bit (rowAt 4 0 (finally small (purge 0 brief) (fresh small) .tables) .word) 2 ≡ false
+
+other-bits : OtherBits
+unfolding ownAnswers verdicts numberOf purge keeps answersOf finally step decided stepBy changePolicy newDomain useLine rowEffect onSet refusal refusalBy policyRefusal useRefusal sharesNode sharesWay badArgument newMaps kindOf counted isFull policies putDomain domainOf total eachSet putRow rowAt sized tagOf setOf within isPower freshTables freshDomains fresh isWays inLimits Row.asRead Row.matches Row.isHit Row.hitWay Row.hitAt Row.filled Row.vacant Row.fillAt Row.evictAt Row.accessBy Row.access Row.flushAt Row.flush Row.moved Row.without Row.wiped Row.dropped Row.droppedDirty Row.cleaned bit word any lowest count put reaches xor Tree.passes Tree.under Tree.holds Tree.free Tree.forcedRight Tree.walk Tree.walked Tree.victim Tree.touch Tree.reset Tree.shares
+other-bits = record { run = refl; purged = refl }
+
+-- what a neighbour's change of policy reports as dropped: one line in one run, none in the other
+abbrev shrink : List Command
+shrink = does 1 16 (both 12) ∷ does 1 2 0 ∷ does 1 16 0 ∷ []
+
+record OtherDrops : Type 0 where
+  run : answersOf small shrink (fresh small) ≡ (6 ∷ 0 ∷ 0 ∷ []) ∷ (1 ∷ 2 ∷ []) ∷ (6 ∷ 1 ∷ 1 ∷ []) ∷ []
+  purged : answersOf small (purge 0 shrink) (fresh small) ≡ (6 ∷ 0 ∷ 0 ∷ []) ∷ (6 ∷ 0 ∷ 0 ∷ []) ∷ []
+
+other-drops : OtherDrops
+unfolding ownAnswers verdicts numberOf purge keeps answersOf finally step decided stepBy changePolicy newDomain useLine rowEffect onSet refusal refusalBy policyRefusal useRefusal sharesNode sharesWay badArgument newMaps kindOf counted isFull policies putDomain domainOf total eachSet putRow rowAt sized tagOf setOf within isPower freshTables freshDomains fresh isWays inLimits Row.asRead Row.matches Row.isHit Row.hitWay Row.hitAt Row.filled Row.vacant Row.fillAt Row.evictAt Row.accessBy Row.access Row.flushAt Row.flush Row.moved Row.without Row.wiped Row.dropped Row.droppedDirty Row.cleaned bit word any lowest count put reaches xor Tree.passes Tree.under Tree.holds Tree.free Tree.forcedRight Tree.walk Tree.walked Tree.victim Tree.touch Tree.reset Tree.shares
+other-drops = record { run = refl; purged = refl }
