@@ -6,3 +6,4 @@ pub mod PolicyUnwinding
 pub mod Unwinding
 pub mod Isolation
 pub mod Witness
+pub mod PurgeLaws

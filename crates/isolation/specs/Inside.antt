@@ -1,0 +1,14 @@
+-- What the crate's inner functions go by.
+use mathlib.Core.Bool.{Bool, cond}
+use mathlib.Core.List.{List}
+use Prim.Native.Nat.{ℕ, _+_}
+use lib.ListN.{set}
+use Rattle.isolation.specs.Purge.{keeps}
+use Rattle.isolation.specs.Calls.{commandOf, Taken}
+
+-- One step taken into place n, if it is kept.
+unfoldable pub takeOne : ℕ → ℕ → ℕ → ℕ → List ℕ → List ℕ → Taken
+takeOne d code argument n codes arguments =
+    cond (keeps d (commandOf code argument))
+    (record { number = 0; count = n + 1; codes = set codes n code; arguments = set arguments n argument })
+    (record { number = 0; count = n; codes = codes; arguments = arguments })
