@@ -7,9 +7,9 @@ use native.Mathlib.Nat.{le-trans}
 use native.Mathlib.Omega.{arith}
 use lib.Dec.{eqb, ltb, lit≤}
 use lib.ListN.{length, replicate, length-replicate, getD, getD-replicate, List·getD-eq-default}
-use borrow.Author.Tests.{ne-eqb, ltb-true, ltb-false, not-false}
+use borrow.Author.Tests.{ne-eqb, ltb-true, ltb-false}
 use Rattle.waymap.specs.Bits.{Bits, bit, word}
-use Rattle.waymap.proofs.Booleans.{cases, or-none}
+use Rattle.waymap.proofs.Booleans.{cases}
 use Rattle.waymap.proofs.BitLaws.{bit-none}
 use Rattle.waymap.proofs.WordLaws.{bit-word}
 use Rattle.replacement.specs.Rule.{Rule, ruleOf}
@@ -31,20 +31,7 @@ use Rattle.isolation.specs.StruckOut.{ownAnswers, verdicts, SameTo, Stru
 use Rattle.isolation.proofs.Relation.{Whole, Separate, Related, Alike}
 use Rattle.isolation.proofs.RowUnwinding.{rule, view-same}
 use Rattle.isolation.proofs.LineUnwinding.{policy-cut}
-use Rattle.isolation.proofs.Unwinding.{output-consistent, verdict-consistent, step-consistent, locally-respects}
-
--- ---- what is struck out
-
--- it belongs to another domain, and is no change of policy
-struck : (d : ℕ) (c : Command) → keeps d c ≡ false → belongs d c ≡ false
-unfolding keeps
-struck d c t = or-none (belongs d c) (not (ltb (c .kind) 4)) t .0
-
-struck-kind : (d : ℕ) (c : Command) → keeps d c ≡ false → eqb (c .kind) 16 ≡ false
-unfolding keeps
-struck-kind d c t =
-    ne-eqb (c .kind) 16
-    (λ e. let h : c .kind < 4 = ltb-true (c .kind) 4 (not-false (ltb (c .kind) 4) (or-none (belongs d c) (not (ltb (c .kind) 4)) t .1)) in omega arith)
+use Rattle.isolation.proofs.Unwinding.{output-consistent, verdict-consistent, step-consistent, locally-respects, struck}
 
 -- ---- a fresh cache is related to itself
 
@@ -105,7 +92,7 @@ module _ (g : Geometry) (limits : within g ≡ true) (d : ℕ) (low : d < 16) wh
       (cases (belongs d c)
       (λ u. rw u (ap₂ _∷_ (output-consistent g limits d low a b rel c u) (answers-from cs (stepOn g c a .state) (stepOn g c b .state) (step-consistent g limits d low a b rel c t))))
       (λ u. rw u (answers-from cs (stepOn g c a .state) (stepOn g c b .state) (step-consistent g limits d low a b rel c t)))))
-      (λ t. rw (t, struck d c t) (answers-from cs (stepOn g c a .state) b (locally-respects g limits d low a b rel c t)))
+      (λ t. rw (t, struck d c t .other) (answers-from cs (stepOn g c a .state) b (locally-respects g limits d low a b rel c t)))
 
   verdicts-from : (cs : List Command) (a b : State) → Related g d a b → verdicts g d cs a ≡ verdicts g d (purge d cs) b
   unfolding verdicts purge
@@ -116,7 +103,7 @@ module _ (g : Geometry) (limits : within g ≡ true) (d : ℕ) (low : d < 16) wh
       (cases (eqb (c .kind) 16)
       (λ u. rw u (ap₂ (λ (n : ℕ) (r : List ℕ). cond (not (belongs d c)) (n ∷ r) r) (verdict-consistent g limits d low a b rel c u) (verdicts-from cs (stepOn g c a .state) (stepOn g c b .state) (step-consistent g limits d low a b rel c t))))
       (λ u. rw u (verdicts-from cs (stepOn g c a .state) (stepOn g c b .state) (step-consistent g limits d low a b rel c t)))))
-      (λ t. rw (t, struck-kind d c t) (verdicts-from cs (stepOn g c a .state) b (locally-respects g limits d low a b rel c t)))
+      (λ t. rw (t, ne-eqb (c .kind) 16 (λ e. omega (arith, struck d c t .kind, e))) (verdicts-from cs (stepOn g c a .state) b (locally-respects g limits d low a b rel c t)))
 
   finally-from : (cs : List Command) (a b : State) → Related g d a b → Related g d (finally g cs a) (finally g (purge d cs) b)
   unfolding finally purge

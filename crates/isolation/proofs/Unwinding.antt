@@ -1,13 +1,13 @@
 -- The unwinding lemmas of Goguen and Meseguer, for one step: `output-consistent`, `step-consistent` and `locally-respects`.
 use mathlib.Core.Path.{_≡_, refl, sym, ap, ap₂, subst, fun-ext, _∙_}
-use mathlib.Core.Bool.{Bool, true, false, cond, not, _&&_, _||_, true≢false, false≢true}
+use mathlib.Core.Bool.{Bool, true, false, cond, not, _&&_, _||_}
 use mathlib.Core.List.{List, [], _∷_}
 use Prim.Native.Nat.{ℕ, zero, suc, _*_, _≤_, _<_}
 use native.Mathlib.Omega.{arith}
 use lib.Dec.{eqb, leb, ltb}
 use lib.ListN.{length}
-use borrow.Author.Tests.{eqb-true, eqb-false, eq-eqb, ne-eqb, leb-true, leb-false, ltb-true, ltb-false, le-ltb, le-leb, lt-leb}
-use Rattle.waymap.proofs.Booleans.{cases}
+use borrow.Author.Tests.{not-true, not-false, eqb-true, eqb-false, eq-eqb, ne-eqb, leb-true, leb-false, ltb-true, ltb-false, le-ltb, le-leb, lt-leb}
+use Rattle.waymap.proofs.Booleans.{cases, or-none}
 use Rattle.replacement.specs.Rule.{Rule, ruleOf}
 use Rattle.row.specs.Answer.{answerOf}
 use Rattle.row.specs.declared.Maps.{Maps}
@@ -28,6 +28,17 @@ use Rattle.isolation.specs.StruckOut.{numberOf}
 use Rattle.isolation.proofs.Relation.{Whole, Separate, Related}
 use Rattle.isolation.proofs.LineUnwinding.{own-line, other-line}
 use Rattle.isolation.proofs.PolicyUnwinding.{policy-related, policy-answer}
+
+-- What is struck out belongs to another domain, and is an access or a flush.
+pub record Struck (d : ℕ) (c : Command) : Type 0 where
+  pub other : belongs d c ≡ false
+  pub kind : c .kind < 4
+
+pub struck : (d : ℕ) (c : Command) → keeps d c ≡ false → Struck d c
+unfolding keeps
+struck d c t =
+    let n = or-none (belongs d c) (not (ltb (c .kind) 4)) t in
+    record { other = n .0; kind = ltb-true (c .kind) 4 (not-false (ltb (c .kind) 4) (n .1)) }
 
 module _ (g : Geometry) (limits : within g ≡ true) (d : ℕ) (low : d < 16) where
   l : Limited g
@@ -182,16 +193,8 @@ module _ (g : Geometry) (limits : within g ≡ true) (d : ℕ) (low : d < 16) wh
     step-consistent c t =
         cases (belongs d c)
         (λ u. own-step c (eqb-true (c .domain) d u) .related)
-        (λ u. cases (ltb (c .kind) 4)
-        (λ v. absurd (false≢true (rw (u, v) at t)))
-        (λ v. kept-step c (ltb-false (c .kind) 4 v) .related))
+        (λ u. let v : not (ltb (c .kind) 4) ≡ true = rw u at t in kept-step c (ltb-false (c .kind) 4 (not-true (ltb (c .kind) 4) v)) .related)
 
     -- a step that is struck out leads to a state that is related to where it started
     pub locally-respects : (c : Command) → keeps d c ≡ false → Related g d (stepOn g c a .state) b
-    unfolding keeps
-    locally-respects c t =
-        cases (belongs d c)
-        (λ u. absurd (true≢false (rw u at t)))
-        (λ u. cases (ltb (c .kind) 4)
-        (λ v. dropped-step c (ltb-true (c .kind) 4 v) (eqb-false (c .domain) d u))
-        (λ v. absurd (true≢false (rw (u, v) at t))))
+    locally-respects c t = dropped-step c (struck d c t .kind) (eqb-false (c .domain) d (struck d c t .other))
