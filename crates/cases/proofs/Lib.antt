@@ -1,0 +1,2 @@
+-- The worked cases, shown.
+pub mod Worked

@@ -1,0 +1,64 @@
+-- Cases B to I of document 01 and step 5 of its case A, in one list: what the rules give, and what document 01 prints.
+use mathlib.Core.Bool.{Bool, cond}
+use mathlib.Core.List.{List, [], _∷_, map}
+use Prim.Native.Nat.{ℕ, _+_, _*_}
+use lib.ListN.{getD}
+use Rattle.waymap.specs.Bits.{bit, word}
+use Rattle.replacement.specs.Tree as Tree
+use Rattle.replacement.specs.Rule.{Rule, tree, nru}
+use Rattle.cache.specs.Run.{Command, answersOf}
+use Rattle.cache.specs.Fresh.{fresh}
+use Rattle.cache.specs.declared.Geometry.{Geometry}
+
+pub record Case : Type 0 where
+  pub given : List ℕ
+  pub printed : List ℕ
+
+-- A bit as a number.
+abbrev flag : Bool → ℕ
+flag b = cond b 1 0
+
+-- The nodes of eight ways that are free for a map, as a word.
+abbrev freeNodes : ℕ → ℕ
+freeNodes m = word 7 (Tree.free 8 (bit m))
+
+-- A step; and a policy change of domain d to both maps m.
+abbrev does : ℕ → ℕ → ℕ → Command
+does d kind argument = record { domain = d; kind = kind; argument = argument }
+
+abbrev takes : ℕ → ℕ → Command
+takes d m = does d 16 (m + 65536 * m)
+
+abbrev oneSet : ℕ → Geometry
+oneSet W = record { sets = 1; ways = W; rule = 0 }
+
+-- The answer to step i of a run from a fresh cache of one set under Tree-PLRU.
+abbrev answered : ℕ → List Command → ℕ → List ℕ
+answered W cs i = getD (answersOf (oneSet W) cs (fresh (oneSet W))) i []
+
+-- Case A's steps up to step 5.
+abbrev stepsA : List Command
+stepsA = takes 0 3 ∷ takes 1 12 ∷ does 0 2 0 ∷ does 0 1 64 ∷ does 1 1 0 ∷ does 0 1 128 ∷ []
+
+-- The cases, of every replacement word u where document 01 names none. An answer is its word's number and its fields.
+unfoldable pub cases : ℕ → List Case
+cases u =
+    -- A, step 5: `evict` 0 0 1
+    record { given = answered 4 stepsA 5; printed = 2 ∷ 0 ∷ 0 ∷ 1 ∷ [] }
+    -- B: "touching way 5 under map 255 sets node 0 to 0, node 2 to 1, node 5 to 0"
+    ∷ record { given = map (λ (i : ℕ). flag (Tree.touch 8 (bit 255) 5 (bit u) i)) (0 ∷ 2 ∷ 5 ∷ []); printed = 0 ∷ 1 ∷ 0 ∷ [] }
+    -- C: "map 12 has one free node, 4"
+    ∷ record { given = freeNodes 12 ∷ []; printed = 16 ∷ [] }
+    -- D: "its victim with a zero word is way 2"
+    ∷ record { given = tree 8 .victim 12 0 ∷ []; printed = 2 ∷ [] }
+    -- E: "with node 4 set, way 3"
+    ∷ record { given = tree 8 .victim 12 16 ∷ []; printed = 3 ∷ [] }
+    -- F: "maps 5 and 10 share free node 1: refused 9"
+    ∷ record { given = answered 8 (takes 0 5 ∷ takes 1 10 ∷ []) 1; printed = 7 ∷ 9 ∷ [] }
+    -- G: "maps 3 and 12 are accepted"
+    ∷ record { given = answered 8 (takes 0 3 ∷ takes 1 12 ∷ []) 1; printed = 6 ∷ 0 ∷ 0 ∷ [] }
+    -- H: "map 1 has no free node"
+    ∷ record { given = freeNodes 1 ∷ []; printed = 0 ∷ [] }
+    -- I: "NRU, map 6, word 0: victim way 1; after its touch bits 1 and 2 are 0 and 1"
+    ∷ record { given = nru 8 .victim 6 0 ∷ nru 8 .touch 6 1 (nru 8 .before 6 0) ∷ []; printed = 1 ∷ 4 ∷ [] }
+    ∷ []

@@ -1,0 +1,54 @@
+-- Case A of document 01, from the file's bytes to the listing's, by computing.
+use mathlib.Core.Path.{_≡_, refl}
+use mathlib.Core.Bool.{xor}
+use mathlib.Core.List.{List, [], _∷_}
+use Prim.Native.Nat.{ℕ, _+_, _*_}
+use Rattle.waymap.specs.Bits.{bit, word, any, lowest, count, put, reaches}
+use Rattle.replacement.specs.Tree as Tree
+use Rattle.replacement.specs.Calls.{isWays, inLimits}
+use Rattle.row.specs.Row as Row
+use Rattle.cache.specs.Geometry.{isPower, within, setOf, tagOf}
+use Rattle.cache.specs.Tables.{sized, rowAt, putRow, eachSet, total}
+use Rattle.cache.specs.Domains.{domainOf, putDomain, policies, isFull, counted}
+use Rattle.cache.specs.Refusal.{kindOf, newMaps, badArgument, sharesWay, sharesNode, useRefusal, policyRefusal, refusalBy, refusal}
+use Rattle.cache.specs.Step.{State, onSet, rowEffect, useLine, newDomain, changePolicy, stepBy, decided, step}
+use Rattle.cache.specs.Run.{Command, answersOf, finally}
+use Rattle.cache.specs.Fresh.{freshTables, freshDomains, fresh}
+use Rattle.cache.specs.declared.Geometry.{Geometry}
+use Rattle.cache.specs.declared.Counts.{Counts}
+use Rattle.isolation.specs.Calls.{commandOf}
+use Rattle.trace.specs.File.{value, field, lastSteps, badFile, fileRefusal}
+use Rattle.trace.specs.Listing.{decimalBy, line, told, answerLines, domainLine, domainLines, runLines, listing}
+
+-- "1 set, 4 ways, rule 0, 9 steps"
+abbrev fileA : List ℕ
+fileA =
+    1 ∷ 0 ∷ 4 ∷ 0 ∷ 9 ∷ 0 ∷ 0 ∷ 0 ∷ 0 ∷ 16 ∷ 1 ∷ 16 ∷ 0 ∷ 2 ∷ 0 ∷ 1 ∷ 1 ∷ 1 ∷ 0 ∷ 1 ∷ 0 ∷ 3 ∷ 2 ∷ 1
+    ∷ 0 ∷ 1 ∷ 3 ∷ 0 ∷ 3 ∷ 0 ∷ 0 ∷ 0 ∷ 0 ∷ 0 ∷ 12 ∷ 0 ∷ 12 ∷ 0 ∷ 0 ∷ 0 ∷ 0 ∷ 0 ∷ 0 ∷ 0 ∷ 0 ∷ 0 ∷ 0 ∷ 0
+    ∷ 0 ∷ 0 ∷ 64 ∷ 0 ∷ 0 ∷ 0 ∷ 0 ∷ 0 ∷ 0 ∷ 0 ∷ 0 ∷ 0 ∷ 0 ∷ 0 ∷ 0 ∷ 0 ∷ 0 ∷ 0 ∷ 128 ∷ 0 ∷ 0 ∷ 0 ∷ 0 ∷ 0
+    ∷ 0 ∷ 0 ∷ 64 ∷ 0 ∷ 0 ∷ 0 ∷ 0 ∷ 0 ∷ 0 ∷ 0 ∷ 0 ∷ 0 ∷ 0 ∷ 0 ∷ 0 ∷ 0 ∷ 0 ∷ 0 ∷ 128 ∷ 0 ∷ 0 ∷ 0 ∷ 0 ∷ 0
+    ∷ 0 ∷ 0 ∷ []
+
+-- the twelve lines that document 01 prints
+abbrev listingA : List ℕ
+listingA =
+    49 ∷ 32 ∷ 52 ∷ 32 ∷ 48 ∷ 32 ∷ 57 ∷ 10 ∷ 48 ∷ 32 ∷ 112 ∷ 111 ∷ 108 ∷ 105 ∷ 99 ∷ 121 ∷ 32 ∷ 48 ∷ 32 ∷ 48 ∷ 10 ∷ 49 ∷ 32 ∷ 112
+    ∷ 111 ∷ 108 ∷ 105 ∷ 99 ∷ 121 ∷ 32 ∷ 48 ∷ 32 ∷ 48 ∷ 10 ∷ 50 ∷ 32 ∷ 102 ∷ 105 ∷ 108 ∷ 108 ∷ 32 ∷ 48 ∷ 10 ∷ 51 ∷ 32 ∷ 102 ∷ 105 ∷ 108
+    ∷ 108 ∷ 32 ∷ 49 ∷ 10 ∷ 52 ∷ 32 ∷ 102 ∷ 105 ∷ 108 ∷ 108 ∷ 32 ∷ 50 ∷ 10 ∷ 53 ∷ 32 ∷ 101 ∷ 118 ∷ 105 ∷ 99 ∷ 116 ∷ 32 ∷ 48 ∷ 32 ∷ 48
+    ∷ 32 ∷ 49 ∷ 10 ∷ 54 ∷ 32 ∷ 102 ∷ 108 ∷ 117 ∷ 115 ∷ 104 ∷ 32 ∷ 49 ∷ 32 ∷ 48 ∷ 10 ∷ 55 ∷ 32 ∷ 114 ∷ 101 ∷ 102 ∷ 117 ∷ 115 ∷ 101 ∷ 100
+    ∷ 32 ∷ 54 ∷ 10 ∷ 56 ∷ 32 ∷ 104 ∷ 105 ∷ 116 ∷ 32 ∷ 48 ∷ 10 ∷ 100 ∷ 111 ∷ 109 ∷ 97 ∷ 105 ∷ 110 ∷ 32 ∷ 48 ∷ 32 ∷ 49 ∷ 32 ∷ 51 ∷ 32
+    ∷ 49 ∷ 32 ∷ 49 ∷ 32 ∷ 49 ∷ 10 ∷ 100 ∷ 111 ∷ 109 ∷ 97 ∷ 105 ∷ 110 ∷ 32 ∷ 49 ∷ 32 ∷ 48 ∷ 32 ∷ 49 ∷ 32 ∷ 48 ∷ 32 ∷ 48 ∷ 32 ∷ 48
+    ∷ 10 ∷ []
+
+pub case-a-listing : listing fileA ≡ listingA
+unfolding answersOf finally step decided stepBy changePolicy newDomain useLine rowEffect onSet refusal refusalBy policyRefusal useRefusal sharesNode sharesWay badArgument newMaps kindOf counted isFull policies putDomain domainOf total eachSet putRow rowAt sized tagOf setOf within isPower freshTables freshDomains fresh isWays inLimits Row.asRead Row.matches Row.isHit Row.hitWay Row.hitAt Row.filled Row.vacant Row.fillAt Row.evictAt Row.accessBy Row.access Row.flushAt Row.flush Row.moved Row.without Row.wiped Row.dropped Row.droppedDirty Row.cleaned bit word any lowest count put reaches xor Tree.passes Tree.under Tree.holds Tree.free Tree.forcedRight Tree.walk Tree.walked Tree.victim Tree.touch Tree.reset Tree.shares commandOf value field lastSteps badFile fileRefusal decimalBy line told answerLines domainLine domainLines runLines listing
+case-a-listing = refl
+
+-- "A file refused by 10 or by 1 gives the one line `refused` and the number": a file of no bytes, and one of 3 sets.
+pub record RefusedFiles : Type 0 where
+  pub empty : listing [] ≡ 114 ∷ 101 ∷ 102 ∷ 117 ∷ 115 ∷ 101 ∷ 100 ∷ 32 ∷ 49 ∷ 48 ∷ 10 ∷ []
+  pub three-sets : listing (3 ∷ 0 ∷ 4 ∷ 0 ∷ 0 ∷ 0 ∷ 0 ∷ 0 ∷ []) ≡ 114 ∷ 101 ∷ 102 ∷ 117 ∷ 115 ∷ 101 ∷ 100 ∷ 32 ∷ 49 ∷ 10 ∷ []
+
+pub refused-files : RefusedFiles
+unfolding any within isPower inLimits isWays value field badFile fileRefusal decimalBy line listing
+refused-files = record { empty = refl; three-sets = refl }

@@ -1,0 +1,51 @@
+-- What a trace file says. A file is its bytes, each a number below 256.
+use mathlib.Core.Bool.{Bool, cond, not, _||_}
+use mathlib.Core.List.{List, [], _∷_}
+use Prim.Native.Nat.{ℕ, zero, suc, _+_, _*_}
+use lib.Dec.{eqb, ltb}
+use lib.ListN.{length, take, drop}
+use Rattle.cache.specs.Geometry.{within}
+use Rattle.cache.specs.Run.{Command}
+use Rattle.cache.specs.declared.Geometry.{Geometry}
+use Rattle.isolation.specs.Calls.{commandOf}
+
+-- "little-endian": the value of some bytes.
+unfoldable pub value : List ℕ → ℕ
+value [] = 0
+value (b ∷ bs) = b + 256 * value bs
+
+-- The value of the n bytes from byte i on.
+unfoldable pub field : ℕ → ℕ → List ℕ → ℕ
+field i n file = value (take n (drop i file))
+
+-- "sets (2 bytes), ways (1), rule (1), number of steps n (4)"
+abbrev pub geometryOf : List ℕ → Geometry
+geometryOf file = record { sets = field 0 2 file; ways = field 2 1 file; rule = field 3 1 file }
+
+abbrev pub stepCount : List ℕ → ℕ
+stepCount file = field 4 4 file
+
+-- "then n codes of 2 bytes (domain, kind); then n arguments of 8 bytes": step i of n.
+abbrev pub commandAt : List ℕ → ℕ → ℕ → Command
+commandAt file n i = commandOf (field (8 + 2 * i) 2 file) (field (8 + 2 * n + 8 * i) 8 file)
+
+-- Of n steps, the k from step i on.
+unfoldable pub lastSteps : List ℕ → ℕ → ℕ → ℕ → List Command
+lastSteps file n i zero = []
+lastSteps file n i (suc k) = commandAt file n i ∷ lastSteps file n (i + 1) k
+
+abbrev pub stepsOf : List ℕ → List Command
+stepsOf file = lastSteps file (stepCount file) 0 (stepCount file)
+
+-- The most steps of a trace.
+abbrev pub maxSteps : ℕ
+maxSteps = 4096
+
+-- Refusal 10: "trace file under 8 bytes, not of its length, or with more than 4,096 steps"; "its length is 8 + 10 × n".
+unfoldable pub badFile : List ℕ → Bool
+badFile file =
+    ltb (length file) 8 || not (eqb (length file) (8 + 10 * stepCount file)) || ltb maxSteps (stepCount file)
+
+-- The number by which a file is refused, or 0: 10 "comes before all others", then the geometry's 1.
+unfoldable pub fileRefusal : List ℕ → ℕ
+fileRefusal file = cond (badFile file) 10 (cond (not (within (geometryOf file))) 1 0)

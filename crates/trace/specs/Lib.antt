@@ -1,0 +1,3 @@
+-- The trace file and its listing: document 01, "Trace file and listing".
+pub mod File
+pub mod Listing

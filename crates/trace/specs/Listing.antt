@@ -1,0 +1,84 @@
+-- The listing of a trace file, as bytes in ASCII.
+use mathlib.Core.Bool.{Bool, cond}
+use mathlib.Core.List.{List, [], _∷_, _++_, map}
+use Prim.Native.Nat.{ℕ, zero, suc, _+_, _/_, _%_}
+use lib.Dec.{eqb, ltb}
+use lib.ListN.{getD}
+use Rattle.cache.specs.Domains.{domainOf, policies}
+use Rattle.cache.specs.Run.{Command, answersOf, finally}
+use Rattle.cache.specs.Fresh.{fresh}
+use Rattle.cache.specs.Step.{State}
+use Rattle.cache.specs.declared.Geometry.{Geometry}
+use Rattle.cache.specs.declared.Counts.{Counts}
+use Rattle.cache.specs.declared.Domains.{Domains}
+use Rattle.trace.specs.File.{geometryOf, stepCount, stepsOf, fileRefusal}
+
+-- A number "in decimal", of at most k digits.
+unfoldable pub decimalBy : ℕ → ℕ → List ℕ
+decimalBy zero n = []
+decimalBy (suc k) n = cond (ltb n 10) [] (decimalBy k (n / 10)) ++ (48 + n % 10) ∷ []
+
+-- Twenty digits hold every number of 64 bits.
+abbrev pub decimal : ℕ → List ℕ
+decimal n = decimalBy 20 n
+
+-- A line: "one space between".
+unfoldable pub line : List (List ℕ) → List ℕ
+line [] = 10 ∷ []
+line (x ∷ []) = x ++ 10 ∷ []
+line (x ∷ y ∷ rest) = x ++ 32 ∷ line (y ∷ rest)
+
+-- The words `refused` and `domain`.
+abbrev pub refused : List ℕ
+refused = 114 ∷ 101 ∷ 102 ∷ 117 ∷ 115 ∷ 101 ∷ 100 ∷ []
+
+abbrev pub domain : List ℕ
+domain = 100 ∷ 111 ∷ 109 ∷ 97 ∷ 105 ∷ 110 ∷ []
+
+-- The words `hit`, `fill`, `evict`, `pass`, `flush`, `absent`, `policy` and `refused`, in the order of their numbers.
+abbrev pub words : List (List ℕ)
+words =
+    (104 ∷ 105 ∷ 116 ∷ [])
+    ∷ (102 ∷ 105 ∷ 108 ∷ 108 ∷ [])
+    ∷ (101 ∷ 118 ∷ 105 ∷ 99 ∷ 116 ∷ [])
+    ∷ (112 ∷ 97 ∷ 115 ∷ 115 ∷ [])
+    ∷ (102 ∷ 108 ∷ 117 ∷ 115 ∷ 104 ∷ [])
+    ∷ (97 ∷ 98 ∷ 115 ∷ 101 ∷ 110 ∷ 116 ∷ [])
+    ∷ (112 ∷ 111 ∷ 108 ∷ 105 ∷ 99 ∷ 121 ∷ [])
+    ∷ refused
+    ∷ []
+
+-- An answer's "word and fields".
+unfoldable pub told : List ℕ → List (List ℕ)
+told [] = []
+told (w ∷ values) = getD words w [] ∷ map decimal values
+
+-- "for each step its place from 0, a word and fields"
+unfoldable pub answerLines : ℕ → List (List ℕ) → List ℕ
+answerLines i [] = []
+answerLines i (a ∷ rest) = line (decimal i ∷ told a) ++ answerLines (i + 1) rest
+
+-- "`domain`, number and five counts"
+unfoldable pub domainLine : ℕ → Counts → List ℕ
+domainLine d c =
+    line (domain ∷ decimal d ∷ decimal (c .hits) ∷ decimal (c .misses) ∷ decimal (c .evicted) ∷ decimal (c .written) ∷ decimal (c .flushed) ∷ [])
+
+-- "each domain whose hit map is not empty, ascending": the k domains from d on.
+unfoldable pub domainLines : Geometry → Domains → ℕ → ℕ → List ℕ
+domainLines g domains d zero = []
+domainLines g domains d (suc k) =
+    cond (eqb (policies (g .ways) domains d .hit) 0) [] (domainLine d (domainOf domains d .counts)) ++ domainLines g domains (d + 1) k
+
+-- "first sets, ways, rule and n", then the steps of the run from a fresh cache, then the domains at its end.
+unfoldable pub runLines : Geometry → List Command → ℕ → List ℕ
+runLines g cs n =
+    line (decimal (g .sets) ∷ decimal (g .ways) ∷ decimal (g .rule) ∷ decimal n ∷ [])
+    ++ answerLines 0 (answersOf g cs (fresh g))
+    ++ domainLines g (finally g cs (fresh g) .domains) 0 16
+
+-- "A file refused by 10 or by 1 gives the one line `refused` and the number."
+unfoldable pub listing : List ℕ → List ℕ
+listing file =
+    cond (eqb (fileRefusal file) 0)
+    (runLines (geometryOf file) (stepsOf file) (stepCount file))
+    (line (refused ∷ decimal (fileRefusal file) ∷ []))

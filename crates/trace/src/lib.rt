@@ -1,0 +1,1 @@
+// The trace file and its listing.
