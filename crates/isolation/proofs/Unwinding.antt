@@ -1,13 +1,13 @@
 -- The unwinding lemmas of Goguen and Meseguer, for one step: `output-consistent`, `step-consistent` and `locally-respects`.
 use mathlib.Core.Path.{_≡_, refl, sym, ap, ap₂, subst, fun-ext, _∙_}
-use mathlib.Core.Bool.{Bool, true, false, cond, not, _&&_, _||_}
+use mathlib.Core.Bool.{Bool, true, false, cond, not, _&&_, _||_, true≢false}
 use mathlib.Core.List.{List, [], _∷_}
 use Prim.Native.Nat.{ℕ, zero, suc, _*_, _≤_, _<_}
 use native.Mathlib.Omega.{arith}
 use lib.Dec.{eqb, leb, ltb}
 use lib.ListN.{length}
 use borrow.Author.Tests.{not-true, not-false, eqb-true, eqb-false, eq-eqb, ne-eqb, leb-true, leb-false, ltb-true, ltb-false, le-ltb, le-leb, lt-leb}
-use Rattle.waymap.proofs.Booleans.{cases, or-none}
+use Rattle.waymap.proofs.Booleans.{cases}
 use Rattle.replacement.specs.Rule.{Rule, ruleOf}
 use Rattle.row.specs.Answer.{answerOf}
 use Rattle.row.specs.declared.Maps.{Maps}
@@ -37,8 +37,9 @@ pub record Struck (d : ℕ) (c : Command) : Type 0 where
 pub struck : (d : ℕ) (c : Command) → keeps d c ≡ false → Struck d c
 unfolding keeps
 struck d c t =
-    let n = or-none (belongs d c) (not (ltb (c .kind) 4)) t in
-    record { other = n .0; kind = ltb-true (c .kind) 4 (not-false (ltb (c .kind) 4) (n .1)) }
+    let other : belongs d c ≡ false = cases (belongs d c) (λ u. absurd (true≢false (rw u at t))) (λ u. u) in
+    let kind : not (ltb (c .kind) 4) ≡ false = rw other at t in
+    record { other = other; kind = ltb-true (c .kind) 4 (not-false (ltb (c .kind) 4) kind) }
 
 module _ (g : Geometry) (limits : within g ≡ true) (d : ℕ) (low : d < 16) where
   l : Limited g
