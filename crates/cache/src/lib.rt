@@ -5,6 +5,7 @@ mod place;
 mod sets;
 mod verdict;
 
+pub use place::within;
 use row::Answer;
 use row::Maps;
 ghost use mathlib.Core.Path.{_≡_};

@@ -4,12 +4,14 @@ use mathlib.Core.List.{List, [], _∷_, _++_, map}
 use Prim.Native.Nat.{ℕ, zero, suc, _+_, _/_, _%_}
 use lib.Dec.{eqb, ltb}
 use lib.ListN.{getD}
-use Rattle.cache.specs.Domains.{domainOf, policies}
+use Rattle.row.specs.Row.{asRead}
+use Rattle.cache.specs.Domains.{maxDomains, domainOf}
 use Rattle.cache.specs.Run.{Command, answersOf, finally}
 use Rattle.cache.specs.Fresh.{fresh}
 use Rattle.cache.specs.Step.{State}
 use Rattle.cache.specs.declared.Geometry.{Geometry}
 use Rattle.cache.specs.declared.Counts.{Counts}
+use Rattle.cache.specs.declared.Domain.{Domain}
 use Rattle.cache.specs.declared.Domains.{Domains}
 use Rattle.trace.specs.File.{geometryOf, stepCount, stepsOf, fileRefusal}
 
@@ -22,9 +24,9 @@ decimalBy (suc k) n = cond (ltb n 10) [] (decimalBy k (n / 10)) ++ (48 + n % 10)
 abbrev pub decimal : ℕ → List ℕ
 decimal n = decimalBy 20 n
 
--- A line: "one space between".
+-- A line, "one space between": a space after each field, and after the last the line's end.
 unfoldable pub line : List (List ℕ) → List ℕ
-line [] = 10 ∷ []
+line [] = []
 line (x ∷ []) = x ++ 10 ∷ []
 line (x ∷ y ∷ rest) = x ++ 32 ∷ line (y ∷ rest)
 
@@ -63,22 +65,29 @@ unfoldable pub domainLine : ℕ → Counts → List ℕ
 domainLine d c =
     line (domain ∷ decimal d ∷ decimal (c .hits) ∷ decimal (c .misses) ∷ decimal (c .evicted) ∷ decimal (c .written) ∷ decimal (c .flushed) ∷ [])
 
--- "each domain whose hit map is not empty, ascending": the k domains from d on.
-unfoldable pub domainLines : Geometry → Domains → ℕ → ℕ → List ℕ
-domainLines g domains d zero = []
-domainLines g domains d (suc k) =
-    cond (eqb (policies (g .ways) domains d .hit) 0) [] (domainLine d (domainOf domains d .counts)) ++ domainLines g domains (d + 1) k
+-- Of "each domain whose hit map is not empty" its line, where a set has W ways; of another nothing.
+unfoldable pub domainPart : ℕ → ℕ → Domain → List ℕ
+domainPart W d x = cond (eqb (asRead W (record { hit = x .hit; fill = x .fill }) .hit) 0) [] (domainLine d (x .counts))
 
--- "first sets, ways, rule and n", then the steps of the run from a fresh cache, then the domains at its end.
+-- "ascending": the k domains from d on.
+unfoldable pub domainLines : ℕ → Domains → ℕ → ℕ → List ℕ
+domainLines W domains d zero = []
+domainLines W domains d (suc k) = domainPart W d (domainOf domains d) ++ domainLines W domains (d + 1) k
+
+-- "first sets, ways, rule and n"
+abbrev pub headLine : Geometry → ℕ → List ℕ
+headLine g n = line (decimal (g .sets) ∷ decimal (g .ways) ∷ decimal (g .rule) ∷ decimal n ∷ [])
+
+-- "the one line `refused` and the number"
+abbrev pub refusedLine : ℕ → List ℕ
+refusedLine n = line (refused ∷ decimal n ∷ [])
+
+-- The first line, then the steps of the run from a fresh cache, then the domains at its end.
 unfoldable pub runLines : Geometry → List Command → ℕ → List ℕ
 runLines g cs n =
-    line (decimal (g .sets) ∷ decimal (g .ways) ∷ decimal (g .rule) ∷ decimal n ∷ [])
-    ++ answerLines 0 (answersOf g cs (fresh g))
-    ++ domainLines g (finally g cs (fresh g) .domains) 0 16
+    headLine g n ++ (answerLines 0 (answersOf g cs (fresh g)) ++ domainLines (g .ways) (finally g cs (fresh g) .domains) 0 maxDomains)
 
 -- "A file refused by 10 or by 1 gives the one line `refused` and the number."
 unfoldable pub listing : List ℕ → List ℕ
 listing file =
-    cond (eqb (fileRefusal file) 0)
-    (runLines (geometryOf file) (stepsOf file) (stepCount file))
-    (line (refused ∷ decimal (fileRefusal file) ∷ []))
+    cond (eqb (fileRefusal file) 0) (runLines (geometryOf file) (stepsOf file) (stepCount file)) (refusedLine (fileRefusal file))

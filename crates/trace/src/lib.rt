@@ -1,1 +1,152 @@
-// The trace file and its listing.
+// A trace file and its listing.
+mod file;
+mod lines;
+mod text;
+
+use cache::Domains;
+use cache::Geometry;
+ghost use mathlib.Core.Path.{_≡_};
+ghost use mathlib.Core.Bool.{true};
+ghost use Prim.Native.Nat.{_+_, _*_, _≤_};
+ghost use lib.ListN.{length};
+ghost use Rattle.cache.specs.Step.{tablesOf};
+ghost use Rattle.cache.specs.Geometry.{within};
+ghost use Rattle.cache.specs.Tables.{lengths, sized};
+ghost use Rattle.trace.specs.File.{fileRefusal};
+ghost use Rattle.trace.specs.Calls.{listedOf, listOf};
+ghost use Rattle.trace.specs.Inside.{writtenOf, ranOf, runTo, listedBy, listingBy, Roomy};
+
+// What a run leaves beside the tables: the place after its lines, and the domains.
+pub struct Ran {
+    pub at: usize,
+    pub domains: Domains,
+}
+
+// The lines of a file's steps, taken one after another on the tables and domains as they are.
+fn run(
+    g: Geometry,
+    file: &[u8],
+    steps: usize,
+    tags: &mut [u64],
+    valid: &mut [u16],
+    dirty: &mut [u16],
+    words: &mut [u64],
+    domains: Domains,
+    out: &mut [u8],
+    at: usize,
+) -> Ran
+    requires { ⌜ length (now file) ≡ 8 + 10 * steps ⌝ }
+    requires { ⌜ steps ≤ 4096 ⌝ }
+    requires { ⌜ at + 92 * steps ≤ length (now out) ⌝ }
+    ensures { λ r. ⌜ ranOf r (tablesOf (now (tags .exit)) (now (valid .exit)) (now (dirty .exit)) (now (words .exit))) (now (out .exit)) ≡ runTo g (now (file .entry)) steps 0 steps (record { tables = tablesOf (now (tags .entry)) (now (valid .entry)) (now (dirty .entry)) (now (words .entry)); domains = domains }) (writtenOf at (now (out .entry))) ⌝ }
+    ensures { λ r. ⌜ r .at ≤ at + 92 * steps ⌝ }
+{
+    let mut all = domains;
+    let mut next = at;
+    let mut i = 0;
+    while i < steps {
+        let command = file::command_at(file, steps, i);
+        let stepped = cache::step(
+            g,
+            tags,
+            valid,
+            dirty,
+            words,
+            all,
+            command.domain,
+            command.kind,
+            command.argument,
+        );
+        let answer = stepped.answer;
+        all = stepped.domains;
+        next = lines::answer(i, answer, out, next);
+        i += 1;
+    }
+    Ran {
+        at: next,
+        domains: all,
+    }
+}
+
+// The listing of a file that is not refused, on tables of its lengths.
+fn listing(
+    g: Geometry,
+    file: &[u8],
+    steps: usize,
+    tags: &mut [u64],
+    valid: &mut [u16],
+    dirty: &mut [u16],
+    words: &mut [u64],
+    out: &mut [u8],
+) -> usize
+    requires { ⌜ within g ≡ true ⌝ }
+    requires { ⌜ sized g (lengths (tablesOf (now tags) (now valid) (now dirty) (now words))) ≡ true ⌝ }
+    requires { ⌜ length (now file) ≡ 8 + 10 * steps ⌝ }
+    requires { ⌜ steps ≤ 4096 ⌝ }
+    requires { ⌜ 393216 ≤ length (now out) ⌝ }
+    ensures { λ r. ⌜ listedBy (tablesOf (now (tags .exit)) (now (valid .exit)) (now (dirty .exit)) (now (words .exit))) (writtenOf r (now (out .exit))) ≡ listingBy g (now (file .entry)) steps (now (out .entry)) ⌝ }
+    ensures { λ r. ⌜ r ≤ 393216 ⌝ }
+{
+    cache::fresh_tables(g, tags, valid, dirty, words);
+    let head = lines::head(g, steps, out, 0);
+    let ran = run(
+        g,
+        file,
+        steps,
+        tags,
+        valid,
+        dirty,
+        words,
+        cache::fresh_domains(),
+        out,
+        head,
+    );
+    lines::domains(g.ways, ran.domains, out, ran.at)
+}
+
+// Lists a file that is not refused.
+fn list_file(
+    file: &[u8],
+    tags: &mut [u64],
+    valid: &mut [u16],
+    dirty: &mut [u16],
+    words: &mut [u64],
+    out: &mut [u8],
+) -> usize
+    requires { ⌜ fileRefusal (now file) ≡ 0 ⌝ }
+    requires { ⌜ Roomy (tablesOf (now tags) (now valid) (now dirty) (now words)) (now out) ⌝ }
+    ensures { λ r. ⌜ listedOf r (now (out .exit)) (tablesOf (now (tags .exit)) (now (valid .exit)) (now (dirty .exit)) (now (words .exit))) ≡ listOf (now (file .entry)) (now (out .entry)) (tablesOf (now (tags .entry)) (now (valid .entry)) (now (dirty .entry)) (now (words .entry))) ⌝ }
+{
+    let g = file::geometry(file);
+    let steps = file::steps(file);
+    let sets = g.sets;
+    let cells = sets * g.ways;
+    listing(
+        g,
+        file,
+        steps,
+        &mut tags[0..cells],
+        &mut valid[0..sets],
+        &mut dirty[0..sets],
+        &mut words[0..sets],
+        out,
+    )
+}
+
+// Lists a file: puts its listing at the front of the output, and answers its length. The run is on the front of the tables.
+pub fn list(
+    file: &[u8],
+    tags: &mut [u64; 4096],
+    valid: &mut [u16; 256],
+    dirty: &mut [u16; 256],
+    words: &mut [u64; 256],
+    out: &mut [u8; 393216],
+) -> usize
+    ensures { λ r. ⌜ listedOf r (now (out .exit)) (tablesOf (now (tags .exit)) (now (valid .exit)) (now (dirty .exit)) (now (words .exit))) ≡ listOf (now (file .entry)) (now (out .entry)) (tablesOf (now (tags .entry)) (now (valid .entry)) (now (dirty .entry)) (now (words .entry))) ⌝ }
+{
+    let number = file::refusal(file);
+    if number != 0 {
+        return lines::refused(number, out, 0);
+    }
+    list_file(file, tags, valid, dirty, words, out)
+}

@@ -1,0 +1,99 @@
+-- The lines of a listing, piece after piece.
+use mathlib.Core.Path.{_≡_, refl, sym, ap, _∙_}
+use mathlib.Core.List.{List, [], _∷_, _++_, map, append-assoc}
+use mathlib.Core.Logic.{_⊎_, inl, inr}
+use Prim.Native.Nat.{ℕ, zero, suc, _+_, _-_, _*_, _≤_, _<_}
+use native.Mathlib.Omega.{arith}
+use lib.Dec.{eqb}
+use lib.ListN.{length}
+use borrow.Author.Tests.{eq-eqb, ne-eqb}
+use denote.Enum.Declared.{tagOf}
+use Rattle.row.proofs.Answer.{the-type}
+use Rattle.row.specs.Answer.{answerOf}
+use Rattle.row.specs.Row.{asRead}
+use Rattle.row.specs.declared.Maps.{Maps}
+use Rattle.row.specs.declared.Answer.{Answer}
+use Rattle.row.specs.declared.Answer.the-variants.{Hit, Fill, Evict, Pass, Flush, Absent, Policy, Refused}
+use Rattle.cache.specs.Domains.{domainOf}
+use Rattle.cache.specs.declared.Domain.{Domain}
+use Rattle.cache.specs.declared.Domains.{Domains}
+use Rattle.trace.specs.Listing.{decimal, line, domainLine, domainPart, domainLines}
+use Rattle.trace.specs.Inside.{Written, writtenOf, append}
+use Rattle.trace.proofs.TextLaws.{append-append, append-none, piece-long}
+
+-- ---- a step's line
+
+pub step-is : (place : ℕ) (word : List ℕ) (rest : List (List ℕ)) (w : Written) {next r : ℕ} {out last : List ℕ}
+    → writtenOf next out ≡ append (decimal place ++ 32 ∷ []) w → writtenOf r last ≡ append (line (word ∷ rest)) (writtenOf next out)
+    → writtenOf r last ≡ append (line (decimal place ∷ word ∷ rest)) w
+unfolding line
+step-is place word rest w e f =
+    f
+    ∙ ap (append (line (word ∷ rest))) e
+    ∙ append-append (decimal place ++ 32 ∷ []) (line (word ∷ rest)) w
+    ∙ ap (λ (xs : List ℕ). append xs w) (append-assoc (decimal place) (32 ∷ []) (line (word ∷ rest)))
+
+-- An answer without fields is its word's number alone.
+pub bare : (a : Answer) (n : ℕ) → tagOf the-type a ≡ n → (n ≡ 3) ⊎ (n ≡ 5) → answerOf a ≡ n ∷ []
+bare Pass n e h = ap (λ (k : ℕ). k ∷ []) e
+bare Absent n e h = ap (λ (k : ℕ). k ∷ []) e
+bare (Hit w) n e (inl h) = absurd (omega arith)
+bare (Hit w) n e (inr h) = absurd (omega arith)
+bare (Fill w) n e (inl h) = absurd (omega arith)
+bare (Fill w) n e (inr h) = absurd (omega arith)
+bare (Evict w tag dirty) n e (inl h) = absurd (omega arith)
+bare (Evict w tag dirty) n e (inr h) = absurd (omega arith)
+bare (Flush w dirty) n e (inl h) = absurd (omega arith)
+bare (Flush w dirty) n e (inr h) = absurd (omega arith)
+bare (Policy dropped dirty) n e (inl h) = absurd (omega arith)
+bare (Policy dropped dirty) n e (inr h) = absurd (omega arith)
+bare (Refused m) n e (inl h) = absurd (omega arith)
+bare (Refused m) n e (inr h) = absurd (omega arith)
+
+-- ---- the domains' lines
+
+pub part-none : (W d : ℕ) (x : Domain) (w : Written) → asRead W (record { hit = x .hit; fill = x .fill }) .hit ≡ 0 → w ≡ append (domainPart W d x) w
+unfolding domainPart
+part-none W d x w e = rw (eq-eqb (asRead W (record { hit = x .hit; fill = x .fill }) .hit) 0 e) (sym (append-none w))
+
+pub part-some : (W d : ℕ) (x : Domain) → (asRead W (record { hit = x .hit; fill = x .fill }) .hit ≡ 0 → ⊥) → domainLine d (x .counts) ≡ domainPart W d x
+unfolding domainPart
+part-some W d x e = rw (ne-eqb (asRead W (record { hit = x .hit; fill = x .fill }) .hit) 0 e)
+
+-- After d domains: the domains to come make the whole.
+pub record Naming (W : ℕ) (domains : Domains) (out₀ : List ℕ) (at : ℕ) (out : List ℕ) (next d : ℕ) : Type 0 where
+  pub inside : d ≤ 16
+  pub fits : at + 2128 ≤ length out₀
+  pub behind : next ≤ at + 133 * d
+  pub long : length out ≡ length out₀
+  pub is : append (domainLines W domains d (16 - d)) (writtenOf next out) ≡ append (domainLines W domains 0 16) (writtenOf at out₀)
+
+pub name-begin : (W : ℕ) (domains : Domains) (out : List ℕ) (at : ℕ) → at + 2128 ≤ length out → Naming W domains out at out at 0
+name-begin W domains out at h = record { inside = omega arith; fits = h; behind = omega arith; long = refl; is = refl }
+
+pub name-turned : {W : ℕ} {domains : Domains} {out₀ out new : List ℕ} {at next after d : ℕ} → Naming W domains out₀ at out next d → d < 16
+    → writtenOf after new ≡ append (domainPart W d (domainOf domains d)) (writtenOf next out) → after ≤ next + 133
+    → Naming W domains out₀ at new after (d + 1)
+unfolding domainLines
+name-turned {W} {domains} {out₀} {out} {new} {at} {next} {after} {d} p h e b =
+    let part : List ℕ = domainPart W d (domainOf domains d) in
+    let rest : List ℕ = domainLines W domains (d + 1) (16 - (d + 1)) in
+    let more : 16 - d ≡ suc (16 - (d + 1)) = omega arith in
+    record {
+      inside = omega arith;
+      fits = p .fits;
+      behind = omega (arith, p .behind);
+      long = piece-long part (writtenOf next out) e ∙ p .long;
+      is =
+          ap (append rest) e
+          ∙ append-append part rest (writtenOf next out)
+          ∙ ap (λ (n : ℕ). append (domainLines W domains d n) (writtenOf next out)) (sym more)
+          ∙ p .is;
+    }
+
+pub name-end : {W : ℕ} {domains : Domains} {out₀ out : List ℕ} {at next d : ℕ} → Naming W domains out₀ at out next d → 16 ≤ d
+    → writtenOf next out ≡ append (domainLines W domains 0 16) (writtenOf at out₀)
+unfolding domainLines
+name-end {W} {domains} {out₀} {out} {at} {next} {d} p h =
+    let none : 16 - d ≡ 0 = omega arith in
+    sym (ap (λ (n : ℕ). append (domainLines W domains d n) (writtenOf next out)) none ∙ append-none (writtenOf next out)) ∙ p .is

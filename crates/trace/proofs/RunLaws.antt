@@ -1,0 +1,108 @@
+-- The run of a file's steps, line after line.
+use mathlib.Core.Path.{_≡_, refl, sym, ap, ap₂, _∙_}
+use mathlib.Core.Bool.{Bool, true}
+use mathlib.Core.List.{List, [], _∷_, _++_}
+use Prim.Native.Nat.{ℕ, zero, suc, _+_, _-_, _*_, _≤_, _<_}
+use native.Mathlib.Omega.{arith}
+use lib.ListN.{length}
+use Rattle.cache.specs.Run.{Command, stepOn, answersOf, finally}
+use Rattle.cache.specs.Step.{State, Outcome}
+use Rattle.cache.specs.Geometry.{within}
+use Rattle.cache.specs.Tables.{Tables, Lengths, lengths, sized}
+use Rattle.cache.specs.Domains.{maxDomains}
+use Rattle.cache.specs.Fresh.{freshTables, freshDomains, fresh, Made, madeOf, freshOf}
+use Rattle.cache.specs.declared.Domains.{Domains}
+use Rattle.cache.specs.declared.Geometry.{Geometry}
+use Rattle.trace.specs.File.{commandAt, lastSteps}
+use Rattle.trace.specs.Listing.{decimal, line, told, answerLines, headLine, domainLines, runLines}
+use Rattle.trace.specs.Inside.{Written, writtenOf, append, RunTo, runTo, listedBy, listingBy}
+use Rattle.trace.proofs.TextLaws.{append-append, append-none, piece-long}
+
+-- The first of the steps to come, and then the others.
+run-next : (g : Geometry) (file : List ℕ) (n i k : ℕ) (s : State) (w : Written) (o : Outcome) → o ≡ stepOn g (commandAt file n i) s
+    → runTo g file n (i + 1) k (o .state) (append (line (decimal i ∷ told (o .answer))) w) ≡ runTo g file n i (suc k) s w
+unfolding runTo lastSteps finally answersOf answerLines
+run-next g file n i k s w o e =
+    ap (λ (p : Outcome). runTo g file n (i + 1) k (p .state) (append (line (decimal i ∷ told (p .answer))) w)) e
+    ∙ ap (λ (x : Written). record { state = finally g (lastSteps file n i (suc k)) s; text = x })
+    (append-append (line (decimal i ∷ told (stepOn g (commandAt file n i) s .answer)))
+    (answerLines (i + 1) (answersOf g (lastSteps file n (i + 1) k) (stepOn g (commandAt file n i) s .state))) w)
+
+-- After i steps: the steps to come make the whole.
+pub record Running (g : Geometry) (file : List ℕ) (n : ℕ) (s₀ : State) (out₀ : List ℕ) (at : ℕ) (s : State) (out : List ℕ) (next i : ℕ) : Type 0 where
+  pub inside : i ≤ n
+  pub short : n ≤ 4096
+  pub whole : length file ≡ 8 + 10 * n
+  pub fits : at + 92 * n ≤ length out₀
+  pub behind : next ≤ at + 92 * i
+  pub long : length out ≡ length out₀
+  pub tables-long : lengths (s .tables) ≡ lengths (s₀ .tables)
+  pub is : runTo g file n i (n - i) s (writtenOf next out) ≡ runTo g file n 0 n s₀ (writtenOf at out₀)
+
+pub run-begin : (g : Geometry) (file : List ℕ) (n : ℕ) (s : State) (out : List ℕ) (at : ℕ) → length file ≡ 8 + 10 * n → n ≤ 4096 → at + 92 * n ≤ length out
+    → Running g file n s out at s out at 0
+run-begin g file n s out at w m h = record {
+  inside = omega arith;
+  short = m;
+  whole = w;
+  fits = h;
+  behind = omega arith;
+  long = refl;
+  tables-long = refl;
+  is = ap (λ (k : ℕ). runTo g file n 0 k s (writtenOf at out)) (omega arith);
+}
+
+pub run-turned : {g : Geometry} {file : List ℕ} {n : ℕ} {s₀ s : State} {out₀ out new : List ℕ} {at next after i : ℕ} (c : Command) (o : Outcome)
+    → Running g file n s₀ out₀ at s out next i → i < n → c ≡ commandAt file n i → o ≡ stepOn g c s → lengths (o .state .tables) ≡ lengths (s .tables)
+    → writtenOf after new ≡ append (line (decimal i ∷ told (o .answer))) (writtenOf next out) → after ≤ next + 92
+    → Running g file n s₀ out₀ at (o .state) new after (i + 1)
+run-turned {g} {file} {n} {s₀} {s} {out₀} {out} {new} {at} {next} {after} {i} c o p h e f l t b =
+    let more : n - i ≡ suc (n - (i + 1)) = omega arith in
+    record {
+      inside = omega arith;
+      short = p .short;
+      whole = p .whole;
+      fits = p .fits;
+      behind = omega (arith, p .behind);
+      long = piece-long (line (decimal i ∷ told (o .answer))) (writtenOf next out) t ∙ p .long;
+      tables-long = l ∙ p .tables-long;
+      is =
+          ap (runTo g file n (i + 1) (n - (i + 1)) (o .state)) t
+          ∙ run-next g file n i (n - (i + 1)) s (writtenOf next out) o (f ∙ ap (λ (x : Command). stepOn g x s) e)
+          ∙ ap (λ (k : ℕ). runTo g file n i k s (writtenOf next out)) (sym more)
+          ∙ p .is;
+    }
+
+pub run-end : {g : Geometry} {file : List ℕ} {n : ℕ} {s₀ s : State} {out₀ out : List ℕ} {at next i : ℕ} → Running g file n s₀ out₀ at s out next i → n ≤ i
+    → record { state = s; text = writtenOf next out } ≡ runTo g file n 0 n s₀ (writtenOf at out₀)
+unfolding runTo lastSteps finally answersOf answerLines
+run-end {g} {file} {n} {s₀} {s} {out₀} {out} {at} {next} {i} p h =
+    let none : n - i ≡ 0 = omega arith in
+    sym (ap (λ (k : ℕ). runTo g file n i k s (writtenOf next out)) none ∙ ap (λ (x : Written). record { state = s; text = x }) (append-none (writtenOf next out)))
+    ∙ p .is
+
+-- ---- the whole listing
+
+fresh-is : (g : Geometry) (t new : Tables) (n : ℕ) → within g ≡ true → sized g (lengths t) ≡ true → madeOf n new ≡ freshOf g t → new ≡ freshTables g
+unfolding freshOf
+fresh-is g t new n w z e = ap (λ (m : Made). m .tables) (rw (w, z) at e)
+
+pub listing-is : (g : Geometry) (file : List ℕ) (n : ℕ) (out₀ : List ℕ) (t₀ t : Tables) (domains : Domains) (w : Written) (r : RunTo) {made at : ℕ} {out : List ℕ}
+    → within g ≡ true → sized g (lengths t₀) ≡ true → madeOf made t ≡ freshOf g t₀ → domains ≡ freshDomains
+    → w ≡ append (headLine g n) (writtenOf 0 out₀) → r ≡ runTo g file n 0 n (record { tables = t; domains = domains }) w
+    → writtenOf at out ≡ append (domainLines (g .ways) (r .state .domains) 0 maxDomains) (r .text)
+    → listedBy (r .state .tables) (writtenOf at out) ≡ listingBy g file n out₀
+unfolding listingBy runLines runTo fresh
+listing-is g file n out₀ t₀ t domains w r {made} {at} {out} l z m d h e f =
+    let cs : List Command = lastSteps file n 0 n in
+    let w₀ : Written = writtenOf 0 out₀ in
+    let head : List ℕ = headLine g n in
+    let answers : List ℕ = answerLines 0 (answersOf g cs (fresh g)) in
+    let named : List ℕ = domainLines (g .ways) (finally g cs (fresh g) .domains) 0 maxDomains in
+    let start : record { tables = t; domains = domains } ≡ fresh g = λ j. record { tables = fresh-is g t₀ t made l z m j; domains = d j } in
+    let ran : r ≡ runTo g file n 0 n (fresh g) (append head w₀) = e ∙ ap₂ (runTo g file n 0 n) start h in
+    ap₂ listedBy (ap (λ (x : RunTo). x .state .tables) ran)
+    (f
+    ∙ ap (λ (x : RunTo). append (domainLines (g .ways) (x .state .domains) 0 maxDomains) (x .text)) ran
+    ∙ append-append answers named (append head w₀)
+    ∙ append-append head (answers ++ named) w₀)

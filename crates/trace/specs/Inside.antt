@@ -1,0 +1,71 @@
+-- What the crate's inner functions go by.
+use mathlib.Core.Bool.{cond}
+use mathlib.Core.List.{List}
+use Prim.Native.Nat.{ℕ, _+_, _≤_}
+use lib.Dec.{ltb}
+use lib.ListN.{length}
+use lib.Seq.{sets}
+use Rattle.cache.specs.Run as Run
+use Rattle.cache.specs.Run.{answersOf, finally}
+use Rattle.cache.specs.Fresh.{fresh}
+use Rattle.cache.specs.Tables.{Tables}
+use Rattle.cache.specs.Step.{State}
+use Rattle.cache.specs.declared.Geometry.{Geometry}
+use Rattle.trace.specs.File.{lastSteps}
+use Rattle.trace.specs.Listing.{answerLines, runLines}
+use Rattle.trace.specs.declared.Ran.{Ran}
+use Rattle.trace.specs.declared.file.Command.{Command}
+
+-- A step as the code has it.
+abbrev pub commandIs : Command → Run.Command
+commandIs c = record { domain = c .domain; kind = c .kind; argument = c .argument }
+
+-- An output, and the place in it where the next bytes go.
+pub record Written : Type 0 where
+  pub at : ℕ
+  pub out : List ℕ
+
+abbrev pub writtenOf : ℕ → List ℕ → Written
+writtenOf at out = record { at = at; out = out }
+
+-- The output with bytes put there.
+unfoldable pub append : List ℕ → Written → Written
+append bytes w = record { at = w .at + length bytes; out = sets (w .out) (w .at) bytes }
+
+-- What stands after field i of n: a space, or the line's end.
+unfoldable pub endOf : ℕ → ℕ → ℕ
+endOf i n = cond (ltb (i + 1) n) 32 10
+
+-- What the k steps of a file of n from step i on leave: the state, and their lines in the output.
+pub record RunTo : Type 0 where
+  pub state : State
+  pub text : Written
+
+unfoldable pub runTo : Geometry → List ℕ → ℕ → ℕ → ℕ → State → Written → RunTo
+runTo g file n i k s w = record {
+  state = finally g (lastSteps file n i k) s;
+  text = append (answerLines i (answersOf g (lastSteps file n i k) s)) w;
+}
+
+abbrev pub ranOf : Ran → Tables → List ℕ → RunTo
+ranOf r t out = record { state = record { tables = t; domains = r .domains }; text = writtenOf (r .at) out }
+
+-- What the listing of a file of n steps leaves on tables of their lengths: the tables, and the lines in the output.
+pub record ListedBy : Type 0 where
+  pub tables : Tables
+  pub text : Written
+
+abbrev pub listedBy : Tables → Written → ListedBy
+listedBy t w = record { tables = t; text = w }
+
+unfoldable pub listingBy : Geometry → List ℕ → ℕ → List ℕ → ListedBy
+listingBy g file n out =
+    listedBy (finally g (lastSteps file n 0 n) (fresh g) .tables) (append (runLines g (lastSteps file n 0 n) n) (writtenOf 0 out))
+
+-- Room for every geometry and every listing.
+pub record Roomy (t : Tables) (out : List ℕ) : Type 0 where
+  pub tags-long : 4096 ≤ length (t .tags)
+  pub valid-long : 256 ≤ length (t .valid)
+  pub dirty-long : 256 ≤ length (t .dirty)
+  pub words-long : 256 ≤ length (t .words)
+  pub out-long : 393216 ≤ length out

@@ -1,0 +1,119 @@
+// The lines of a listing.
+use crate::text;
+use cache::Counts;
+use cache::Domain;
+use cache::Domains;
+use cache::Geometry;
+use row::Answer;
+use row::Maps;
+ghost use mathlib.Core.Path.{_≡_};
+ghost use mathlib.Core.List.{[], _∷_, map};
+ghost use Prim.Native.Nat.{_+_, _*_, _≤_, _<_};
+ghost use lib.ListN.{length};
+ghost use Rattle.row.specs.Answer.{answerOf};
+ghost use Rattle.trace.specs.Listing.{decimal, line, told as toldAs, headLine, refusedLine, domainLine, domainPart, domainLines};
+ghost use Rattle.trace.specs.Inside.{writtenOf, append};
+
+// The line of a refused file.
+pub fn refused(number: usize, out: &mut [u8], at: usize) -> usize
+    requires { ⌜ at + 29 ≤ length (now out) ⌝ }
+    ensures { λ r. ⌜ writtenOf r (now (out .exit)) ≡ append (refusedLine number) (writtenOf at (now (out .entry))) ⌝ }
+    ensures { λ r. ⌜ r ≤ at + 29 ⌝ }
+{
+    text::told(b"refused", &[number as u64], out, at)
+}
+
+// The first line: sets, ways, rule and number of steps.
+pub fn head(g: Geometry, steps: usize, out: &mut [u8], at: usize) -> usize
+    requires { ⌜ at + 84 ≤ length (now out) ⌝ }
+    ensures { λ r. ⌜ writtenOf r (now (out .exit)) ≡ append (headLine g steps) (writtenOf at (now (out .entry))) ⌝ }
+    ensures { λ r. ⌜ r ≤ at + 84 ⌝ }
+{
+    let values = [g.sets as u64, g.ways as u64, g.rule as u64, steps as u64];
+    text::numbers(&values, out, at)
+}
+
+// A step's line: its place, a word and fields.
+fn step(place: usize, word: &[u8], values: &[u64], out: &mut [u8], at: usize) -> usize
+    requires { ⌜ length (now word) ≤ 7 ⌝ }
+    requires { ⌜ length (now values) ≤ 3 ⌝ }
+    requires { ⌜ at + 92 ≤ length (now out) ⌝ }
+    ensures { λ r. ⌜ writtenOf r (now (out .exit)) ≡ append (line (decimal place ∷ now (word .entry) ∷ map decimal (now (values .entry)))) (writtenOf at (now (out .entry))) ⌝ }
+    ensures { λ r. ⌜ r ≤ at + 92 ⌝ }
+{
+    let next = text::number(place as u64, b' ', out, at);
+    text::told(word, values, out, next)
+}
+
+// The line of an answer.
+pub fn answer(place: usize, answer: Answer, out: &mut [u8], at: usize) -> usize
+    requires { ⌜ at + 92 ≤ length (now out) ⌝ }
+    ensures { λ r. ⌜ writtenOf r (now (out .exit)) ≡ append (line (decimal place ∷ toldAs (answerOf answer))) (writtenOf at (now (out .entry))) ⌝ }
+    ensures { λ r. ⌜ r ≤ at + 92 ⌝ }
+{
+    match answer {
+        Answer::Hit(way) => step(place, b"hit", &[way as u64], out, at),
+        Answer::Fill(way) => step(place, b"fill", &[way as u64], out, at),
+        Answer::Evict { way, tag, dirty } => {
+            step(place, b"evict", &[way as u64, tag, dirty as u64], out, at)
+        }
+        Answer::Pass => step(place, b"pass", &[], out, at),
+        Answer::Flush { way, dirty } => {
+            step(place, b"flush", &[way as u64, dirty as u64], out, at)
+        }
+        Answer::Absent => step(place, b"absent", &[], out, at),
+        Answer::Policy { dropped, dirty } => {
+            step(place, b"policy", &[dropped as u64, dirty as u64], out, at)
+        }
+        Answer::Refused(number) => step(place, b"refused", &[number as u64], out, at),
+    }
+}
+
+// The line of a domain.
+fn domain(number: usize, counts: Counts, out: &mut [u8], at: usize) -> usize
+    requires { ⌜ at + 133 ≤ length (now out) ⌝ }
+    ensures { λ r. ⌜ writtenOf r (now (out .exit)) ≡ append (domainLine number counts) (writtenOf at (now (out .entry))) ⌝ }
+    ensures { λ r. ⌜ r ≤ at + 133 ⌝ }
+{
+    let values = [
+        number as u64,
+        counts.hits as u64,
+        counts.misses as u64,
+        counts.evicted as u64,
+        counts.written as u64,
+        counts.flushed as u64,
+    ];
+    text::told(b"domain", &values, out, at)
+}
+
+// The line of a domain whose hit map is not empty; of another nothing.
+fn part(ways: usize, number: usize, own: Domain, out: &mut [u8], at: usize) -> usize
+    requires { ⌜ at + 133 ≤ length (now out) ⌝ }
+    ensures { λ r. ⌜ writtenOf r (now (out .exit)) ≡ append (domainPart ways number own) (writtenOf at (now (out .entry))) ⌝ }
+    ensures { λ r. ⌜ r ≤ at + 133 ⌝ }
+{
+    let stored = Maps {
+        hit: own.hit,
+        fill: own.fill,
+    };
+    let read = row::as_read(ways, stored);
+    if read.hit == 0 {
+        return at;
+    }
+    domain(number, own.counts, out, at)
+}
+
+// The domains' lines.
+pub fn domains(ways: usize, domains: Domains, out: &mut [u8], at: usize) -> usize
+    requires { ⌜ at + 2128 ≤ length (now out) ⌝ }
+    ensures { λ r. ⌜ writtenOf r (now (out .exit)) ≡ append (domainLines ways domains 0 16) (writtenOf at (now (out .entry))) ⌝ }
+    ensures { λ r. ⌜ r ≤ at + 2128 ⌝ }
+{
+    let mut next = at;
+    let mut d = 0;
+    while d < 16 {
+        next = part(ways, d, domains.records[d], out, next);
+        d += 1;
+    }
+    next
+}
