@@ -9,6 +9,7 @@ use lib.ListN.{length, take, drop, length-append}
 use lib.Seq.{sets, sets-eq, length-take-le}
 use borrow.Author.Tests.{ltb-false, eqb-true, eq-eqb, ne-eqb}
 use borrow.Rule.Slice.PartMut.{postOf, post-is}
+use Rattle.io.specs.Counts.{Counts}
 use Rattle.waymap.proofs.Booleans.{cases}
 use Rattle.cache.specs.Geometry.{within}
 use Rattle.cache.specs.Tables.{Tables, Lengths, lengths, sized}
@@ -125,10 +126,11 @@ listed-is file out last t new r z b h e =
     })
 
 -- What is written lies within the output.
-pub listed-short : (file out : List ℕ) (t : Tables) {r : ℕ} {last : List ℕ} {new : Tables} → listedOf r last new ≡ listOf file out t → r ≤ length last
+pub listed-counts : (file out : List ℕ) (t : Tables) {r : ℕ} {last : List ℕ} {new : Tables} → listedOf r last new ≡ listOf file out t → Counts r last
 unfolding listOf
-listed-short file out t {r} {last} {new} e =
+listed-counts file out t {r} {last} {new} e =
     let all : length last ≡ length (listing file) + length (drop (length (listing file)) out) =
-    ap (λ (l : Listed). length (l .output)) e ∙ length-append (listing file) (drop (length (listing file)) out) in
+        ap (λ (l : Listed). length (l .output)) e ∙ length-append (listing file) (drop (length (listing file)) out) in
     let count : r ≡ length (listing file) = ap (λ (l : Listed). l .count) e in
-    omega (arith, all, count)
+    let short : r ≤ length last = omega (arith, all, count) in
+    (short, sym (length-take-le r last short))

@@ -9,6 +9,7 @@ ghost use mathlib.Core.Path.{_≡_};
 ghost use mathlib.Core.Bool.{true};
 ghost use Prim.Native.Nat.{_+_, _*_, _≤_};
 ghost use lib.ListN.{length};
+ghost use Rattle.io.specs.Counts.{Counts};
 ghost use Rattle.cache.specs.Step.{tablesOf};
 ghost use Rattle.cache.specs.Geometry.{within};
 ghost use Rattle.cache.specs.Tables.{lengths, sized};
@@ -143,6 +144,7 @@ pub fn list(
     out: &mut [u8; 393216],
 ) -> usize
     ensures { λ r. ⌜ listedOf r (now (out .exit)) (tablesOf (now (tags .exit)) (now (valid .exit)) (now (dirty .exit)) (now (words .exit))) ≡ listOf (now (file .entry)) (now (out .entry)) (tablesOf (now (tags .entry)) (now (valid .entry)) (now (dirty .entry)) (now (words .entry))) ⌝ }
+    ensures { λ r. ⌜ Counts r (now (out .exit)) ⌝ }
 {
     let number = file::refusal(file);
     if number != 0 {

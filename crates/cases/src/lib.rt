@@ -1,1 +1,0 @@
-// Document 01's worked cases.

@@ -1,0 +1,96 @@
+// Cases A, J, K and L of document 01, listed by the public call. Cases B to I are shown of the rules themselves, in proofs/Worked.antt.
+use libc::STDOUT_FILENO;
+ghost use Rattle.io.specs.Counts.{Counts};
+
+// How many bytes the first line has.
+fn line_length(text: &[u8]) -> usize
+    ensures { λ r. ⌜ Counts r (now (text .entry)) ⌝ }
+{
+    let mut i = 0;
+    while i < text.len() {
+        if text[i] == b'\n' {
+            return i + 1;
+        }
+        i += 1;
+    }
+    i
+}
+
+// Writes a text, or its first line alone.
+fn put(text: &[u8], whole: bool) {
+    if whole {
+        io::write_all(STDOUT_FILENO, text);
+        return;
+    }
+    let n = line_length(text);
+    io::write_all(STDOUT_FILENO, &text[..n]);
+}
+
+// Writes the listing of a file, or its first line alone.
+fn show(file: &[u8], whole: bool) {
+    let mut tags = [0u64; 4096];
+    let mut valid = [0u16; 256];
+    let mut dirty = [0u16; 256];
+    let mut words = [0u64; 256];
+    let mut out = [0u8; 393216];
+    let length = trace::list(
+        file,
+        &mut tags,
+        &mut valid,
+        &mut dirty,
+        &mut words,
+        &mut out,
+    );
+    put(&out[..length], whole);
+}
+
+// "1 set, 4 ways, rule 0, 9 steps"
+fn case_a() {
+    let file = [
+        1u8, 0, 4, 0, 9, 0, 0, 0, 0, 16, 1, 16, 0, 2, 0, 1, 1, 1, 0, 1, 0, 3, 2, 1, 0, 1, 3, 0, 3,
+        0, 0, 0, 0, 0, 12, 0, 12, 0, 0, 0, 0, 0, 0, 0, 0, 0, 0, 0, 0, 0, 64, 0, 0, 0, 0, 0, 0, 0, 0,
+        0, 0, 0, 0, 0, 0, 0, 128, 0, 0, 0, 0, 0, 0, 0, 64, 0, 0, 0, 0, 0, 0, 0, 0, 0, 0, 0, 0, 0, 0,
+        0, 128, 0, 0, 0, 0, 0, 0, 0,
+    ];
+    show(&file, true);
+}
+
+// "S = 256 stands, 257 and 512 are refused 1"
+fn case_j() {
+    show(&[0u8, 1, 2, 0, 0, 0, 0, 0], true);
+    show(&[1u8, 1, 2, 0, 0, 0, 0, 0], true);
+    show(&[0u8, 2, 2, 0, 0, 0, 0, 0], true);
+}
+
+// "domain 15 stands, 16 is refused 3": each takes way 0.
+fn case_k() {
+    show(
+        &[
+            1u8, 0, 2, 0, 2, 0, 0, 0, 15, 16, 16, 16, 1, 0, 1, 0, 0, 0, 0, 0, 1, 0, 1, 0, 0, 0, 0,
+            0,
+        ],
+        true,
+    );
+}
+
+// "4,096 steps stand, 4,097 are refused 10"
+fn case_l() {
+    let mut file = [0u8; 40978];
+    file[0] = 1;
+    file[2] = 2;
+    file[5] = 16;
+    show(&file[..40968], false);
+    file[4] = 1;
+    show(&file, false);
+}
+
+fn main() {
+    io::write_all(STDOUT_FILENO, b"case A\n");
+    case_a();
+    io::write_all(STDOUT_FILENO, b"case J\n");
+    case_j();
+    io::write_all(STDOUT_FILENO, b"case K\n");
+    case_k();
+    io::write_all(STDOUT_FILENO, b"case L\n");
+    case_l();
+}
