@@ -1,7 +1,6 @@
--- The trace file and its listing.
-pub mod FileLaws
-pub mod LineLaws
-pub mod ListLaws
-pub mod RunLaws
+-- The listing of a trace file.
 pub mod TextLaws
+pub mod LineLaws
+pub mod RunLaws
+pub mod ListLaws
 pub mod WorkedCases

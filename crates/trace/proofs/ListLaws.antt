@@ -4,13 +4,12 @@ use mathlib.Core.Bool.{Bool, true, false, cond, not, _||_}
 use mathlib.Core.List.{List, [], _∷_, _++_}
 use Prim.Native.Nat.{ℕ, zero, suc, _+_, _-_, _*_, _≤_, _<_}
 use native.Mathlib.Omega.{arith}
-use lib.Dec.{eqb, ltb}
+use lib.Dec.{eqb}
 use lib.ListN.{length, take, drop, length-append}
 use lib.Seq.{sets, sets-eq, length-take-le}
-use borrow.Author.Tests.{ltb-false, eqb-true, eq-eqb, ne-eqb}
+use borrow.Author.Tests.{eq-eqb, ne-eqb}
 use borrow.Rule.Slice.PartMut.{postOf, post-is}
 use Rattle.io.specs.Counts.{Counts}
-use Rattle.waymap.proofs.Booleans.{cases}
 use Rattle.cache.specs.Geometry.{within}
 use Rattle.cache.specs.Tables.{Tables, Lengths, lengths, sized}
 use Rattle.cache.specs.Step.{State, tablesOf}
@@ -19,40 +18,11 @@ use Rattle.cache.specs.Fresh.{fresh}
 use Rattle.cache.specs.Inside.{Limited}
 use Rattle.cache.specs.declared.Geometry.{Geometry}
 use Rattle.cache.proofs.GeometryLaws.{limited, rows-bound}
-use Rattle.trace.specs.File.{geometryOf, stepCount, stepsOf, maxSteps, badFile, fileRefusal}
+use Rattle.tracefile.specs.File.{geometryOf, stepCount, stepsOf, fileRefusal}
 use Rattle.trace.specs.Listing.{refusedLine, runLines, listing}
 use Rattle.trace.specs.Calls.{Listed, listedOf, onto, ontoTables, lastTables, listOf}
 use Rattle.trace.specs.Inside.{Written, writtenOf, append, ListedBy, listedBy, listingBy, Roomy}
 use Rattle.trace.proofs.TextLaws.{piece-end}
-
--- ---- a file that is not refused
-
-pub record Accepted (file : List ℕ) : Type 0 where
-  pub long : 8 ≤ length file
-  pub whole : length file ≡ 8 + 10 * stepCount file
-  pub short : stepCount file ≤ 4096
-  pub limits : within (geometryOf file) ≡ true
-
-pub accepted : (file : List ℕ) → fileRefusal file ≡ 0 → Accepted file
-unfolding fileRefusal badFile
-accepted file e =
-    cases (ltb (length file) 8)
-    (λ a. absurd (nonzero 9 (rw a at e)))
-    (λ a. cases (eqb (length file) (8 + 10 * stepCount file))
-    (λ b. cases (ltb maxSteps (stepCount file))
-    (λ d. absurd (nonzero 9 (rw (a, b, d) at e)))
-    (λ d. cases (within (geometryOf file))
-    (λ w. record {
-      long = ltb-false (length file) 8 a;
-      whole = eqb-true (length file) (8 + 10 * stepCount file) b;
-      short = ltb-false maxSteps (stepCount file) d;
-      limits = w;
-    })
-    (λ w. absurd (nonzero 0 (rw (a, b, d, w) at e)))))
-    (λ b. absurd (nonzero 9 (rw (a, b) at e))))
-  where
-    nonzero : (n : ℕ) → suc n ≡ 0 → ⊥
-    nonzero n q = omega arith
 
 -- ---- the front of the lent tables
 
@@ -130,7 +100,7 @@ pub listed-counts : (file out : List ℕ) (t : Tables) {r : ℕ} {last : List �
 unfolding listOf
 listed-counts file out t {r} {last} {new} e =
     let all : length last ≡ length (listing file) + length (drop (length (listing file)) out) =
-        ap (λ (l : Listed). length (l .output)) e ∙ length-append (listing file) (drop (length (listing file)) out) in
+    ap (λ (l : Listed). length (l .output)) e ∙ length-append (listing file) (drop (length (listing file)) out) in
     let count : r ≡ length (listing file) = ap (λ (l : Listed). l .count) e in
     let short : r ≤ length last = omega (arith, all, count) in
     (short, sym (length-take-le r last short))

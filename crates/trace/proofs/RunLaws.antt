@@ -13,7 +13,7 @@ use Rattle.cache.specs.Domains.{maxDomains}
 use Rattle.cache.specs.Fresh.{freshTables, freshDomains, fresh, Made, madeOf, freshOf}
 use Rattle.cache.specs.declared.Domains.{Domains}
 use Rattle.cache.specs.declared.Geometry.{Geometry}
-use Rattle.trace.specs.File.{commandAt, lastSteps}
+use Rattle.tracefile.specs.File.{commandAt, lastSteps}
 use Rattle.trace.specs.Listing.{decimal, line, told, answerLines, headLine, domainLines, runLines}
 use Rattle.trace.specs.Inside.{Written, writtenOf, append, RunTo, runTo, listedBy, listingBy}
 use Rattle.trace.proofs.TextLaws.{append-append, append-none, piece-long}
@@ -31,20 +31,16 @@ run-next g file n i k s w o e =
 -- After i steps: the steps to come make the whole.
 pub record Running (g : Geometry) (file : List ℕ) (n : ℕ) (s₀ : State) (out₀ : List ℕ) (at : ℕ) (s : State) (out : List ℕ) (next i : ℕ) : Type 0 where
   pub inside : i ≤ n
-  pub short : n ≤ 4096
-  pub whole : length file ≡ 8 + 10 * n
   pub fits : at + 92 * n ≤ length out₀
   pub behind : next ≤ at + 92 * i
   pub long : length out ≡ length out₀
   pub tables-long : lengths (s .tables) ≡ lengths (s₀ .tables)
   pub is : runTo g file n i (n - i) s (writtenOf next out) ≡ runTo g file n 0 n s₀ (writtenOf at out₀)
 
-pub run-begin : (g : Geometry) (file : List ℕ) (n : ℕ) (s : State) (out : List ℕ) (at : ℕ) → length file ≡ 8 + 10 * n → n ≤ 4096 → at + 92 * n ≤ length out
+pub run-begin : (g : Geometry) (file : List ℕ) (n : ℕ) (s : State) (out : List ℕ) (at : ℕ) → at + 92 * n ≤ length out
     → Running g file n s out at s out at 0
-run-begin g file n s out at w m h = record {
+run-begin g file n s out at h = record {
   inside = omega arith;
-  short = m;
-  whole = w;
   fits = h;
   behind = omega arith;
   long = refl;
@@ -60,8 +56,6 @@ run-turned {g} {file} {n} {s₀} {s} {out₀} {out} {new} {at} {next} {after} {i
     let more : n - i ≡ suc (n - (i + 1)) = omega arith in
     record {
       inside = omega arith;
-      short = p .short;
-      whole = p .whole;
       fits = p .fits;
       behind = omega (arith, p .behind);
       long = piece-long (line (decimal i ∷ told (o .answer))) (writtenOf next out) t ∙ p .long;

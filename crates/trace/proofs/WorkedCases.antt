@@ -17,7 +17,7 @@ use Rattle.cache.specs.Fresh.{freshTables, freshDomains, fresh}
 use Rattle.cache.specs.declared.Geometry.{Geometry}
 use Rattle.cache.specs.declared.Counts.{Counts}
 use Rattle.isolation.specs.Calls.{commandOf}
-use Rattle.trace.specs.File.{value, field, lastSteps, badFile, fileRefusal}
+use Rattle.tracefile.specs.File.{value, field, lastSteps, badFile, fileRefusal}
 use Rattle.trace.specs.Listing.{decimalBy, line, told, answerLines, domainLine, domainPart, domainLines, runLines, listing}
 
 -- "1 set, 4 ways, rule 0, 9 steps"

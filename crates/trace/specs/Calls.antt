@@ -8,7 +8,7 @@ use Rattle.cache.specs.Run.{finally}
 use Rattle.cache.specs.Fresh.{fresh}
 use Rattle.cache.specs.Step.{State}
 use Rattle.cache.specs.Tables.{Tables}
-use Rattle.trace.specs.File.{geometryOf, stepsOf, fileRefusal}
+use Rattle.tracefile.specs.File.{geometryOf, stepsOf, fileRefusal}
 use Rattle.trace.specs.Listing.{listing}
 
 -- How many bytes are written, the output and the tables.

@@ -5,20 +5,14 @@ use Prim.Native.Nat.{ℕ, _+_, _≤_}
 use lib.Dec.{ltb}
 use lib.ListN.{length}
 use lib.Seq.{sets}
-use Rattle.cache.specs.Run as Run
 use Rattle.cache.specs.Run.{answersOf, finally}
 use Rattle.cache.specs.Fresh.{fresh}
 use Rattle.cache.specs.Tables.{Tables}
 use Rattle.cache.specs.Step.{State}
 use Rattle.cache.specs.declared.Geometry.{Geometry}
-use Rattle.trace.specs.File.{lastSteps}
+use Rattle.tracefile.specs.File.{lastSteps}
 use Rattle.trace.specs.Listing.{answerLines, runLines}
 use Rattle.trace.specs.declared.Ran.{Ran}
-use Rattle.trace.specs.declared.file.Command.{Command}
-
--- A step as the code has it.
-abbrev pub commandIs : Command → Run.Command
-commandIs c = record { domain = c .domain; kind = c .kind; argument = c .argument }
 
 -- An output, and the place in it where the next bytes go.
 pub record Written : Type 0 where

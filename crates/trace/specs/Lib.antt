@@ -1,5 +1,4 @@
--- The trace file and its listing: document 01, "Trace file and listing".
-pub mod File
+-- The listing of a trace file: document 01, "Trace file and listing".
 pub mod Listing
 pub mod Calls
 pub mod Inside

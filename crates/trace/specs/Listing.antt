@@ -13,7 +13,7 @@ use Rattle.cache.specs.declared.Geometry.{Geometry}
 use Rattle.cache.specs.declared.Counts.{Counts}
 use Rattle.cache.specs.declared.Domain.{Domain}
 use Rattle.cache.specs.declared.Domains.{Domains}
-use Rattle.trace.specs.File.{geometryOf, stepCount, stepsOf, fileRefusal}
+use Rattle.tracefile.specs.File.{geometryOf, stepCount, stepsOf, fileRefusal}
 
 -- A number "in decimal", of at most k digits.
 unfoldable pub decimalBy : ℕ → ℕ → List ℕ

@@ -1,5 +1,4 @@
 // A trace file and its listing.
-mod file;
 mod lines;
 mod text;
 
@@ -13,7 +12,7 @@ ghost use Rattle.io.specs.Counts.{Counts};
 ghost use Rattle.cache.specs.Step.{tablesOf};
 ghost use Rattle.cache.specs.Geometry.{within};
 ghost use Rattle.cache.specs.Tables.{lengths, sized};
-ghost use Rattle.trace.specs.File.{fileRefusal};
+ghost use Rattle.tracefile.specs.File.{fileRefusal};
 ghost use Rattle.trace.specs.Calls.{listedOf, listOf};
 ghost use Rattle.trace.specs.Inside.{writtenOf, ranOf, runTo, listedBy, listingBy, Roomy};
 
@@ -27,7 +26,7 @@ pub struct Ran {
 fn run(
     g: Geometry,
     file: &[u8],
-    steps: usize,
+    steps: u32,
     tags: &mut [u64],
     valid: &mut [u16],
     dirty: &mut [u16],
@@ -36,8 +35,6 @@ fn run(
     out: &mut [u8],
     at: usize,
 ) -> Ran
-    requires { ⌜ length (now file) ≡ 8 + 10 * steps ⌝ }
-    requires { ⌜ steps ≤ 4096 ⌝ }
     requires { ⌜ at + 92 * steps ≤ length (now out) ⌝ }
     ensures { λ r. ⌜ ranOf r (tablesOf (now (tags .exit)) (now (valid .exit)) (now (dirty .exit)) (now (words .exit))) (now (out .exit)) ≡ runTo g (now (file .entry)) steps 0 steps (record { tables = tablesOf (now (tags .entry)) (now (valid .entry)) (now (dirty .entry)) (now (words .entry)); domains = domains }) (writtenOf at (now (out .entry))) ⌝ }
     ensures { λ r. ⌜ r .at ≤ at + 92 * steps ⌝ }
@@ -46,7 +43,7 @@ fn run(
     let mut next = at;
     let mut i = 0;
     while i < steps {
-        let command = file::command_at(file, steps, i);
+        let command = tracefile::command_at(file, steps, i);
         let stepped = cache::step(
             g,
             tags,
@@ -54,13 +51,13 @@ fn run(
             dirty,
             words,
             all,
-            command.domain,
+            command.domain as usize,
             command.kind,
             command.argument,
         );
         let answer = stepped.answer;
         all = stepped.domains;
-        next = lines::answer(i, answer, out, next);
+        next = lines::answer(i as usize, answer, out, next);
         i += 1;
     }
     Ran {
@@ -73,7 +70,7 @@ fn run(
 fn listing(
     g: Geometry,
     file: &[u8],
-    steps: usize,
+    steps: u32,
     tags: &mut [u64],
     valid: &mut [u16],
     dirty: &mut [u16],
@@ -82,14 +79,13 @@ fn listing(
 ) -> usize
     requires { ⌜ within g ≡ true ⌝ }
     requires { ⌜ sized g (lengths (tablesOf (now tags) (now valid) (now dirty) (now words))) ≡ true ⌝ }
-    requires { ⌜ length (now file) ≡ 8 + 10 * steps ⌝ }
     requires { ⌜ steps ≤ 4096 ⌝ }
     requires { ⌜ 393216 ≤ length (now out) ⌝ }
     ensures { λ r. ⌜ listedBy (tablesOf (now (tags .exit)) (now (valid .exit)) (now (dirty .exit)) (now (words .exit))) (writtenOf r (now (out .exit))) ≡ listingBy g (now (file .entry)) steps (now (out .entry)) ⌝ }
     ensures { λ r. ⌜ r ≤ 393216 ⌝ }
 {
     cache::fresh_tables(g, tags, valid, dirty, words);
-    let head = lines::head(g, steps, out, 0);
+    let head = lines::head(g, steps as usize, out, 0);
     let ran = run(
         g,
         file,
@@ -118,8 +114,8 @@ fn list_file(
     requires { ⌜ Roomy (tablesOf (now tags) (now valid) (now dirty) (now words)) (now out) ⌝ }
     ensures { λ r. ⌜ listedOf r (now (out .exit)) (tablesOf (now (tags .exit)) (now (valid .exit)) (now (dirty .exit)) (now (words .exit))) ≡ listOf (now (file .entry)) (now (out .entry)) (tablesOf (now (tags .entry)) (now (valid .entry)) (now (dirty .entry)) (now (words .entry))) ⌝ }
 {
-    let g = file::geometry(file);
-    let steps = file::steps(file);
+    let g = tracefile::geometry(file);
+    let steps = tracefile::steps(file);
     let sets = g.sets;
     let cells = sets * g.ways;
     listing(
@@ -146,7 +142,7 @@ pub fn list(
     ensures { λ r. ⌜ listedOf r (now (out .exit)) (tablesOf (now (tags .exit)) (now (valid .exit)) (now (dirty .exit)) (now (words .exit))) ≡ listOf (now (file .entry)) (now (out .entry)) (tablesOf (now (tags .entry)) (now (valid .entry)) (now (dirty .entry)) (now (words .entry))) ⌝ }
     ensures { λ r. ⌜ Counts r (now (out .exit)) ⌝ }
 {
-    let number = file::refusal(file);
+    let number = tracefile::refusal(file);
     if number != 0 {
         return lines::refused(number, out, 0);
     }

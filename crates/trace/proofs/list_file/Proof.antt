@@ -1,25 +1,23 @@
 -- `trace::list_file` meets its contract.
 use native.Mathlib.Omega.{arith}
 use mathlib.Core.Path.{_≡_, sym, ap, ap₂, _∙_}
-use mathlib.Core.List.{List}
-use Prim.Native.Nat.{ℕ, _+_, _*_}
-use lib.ListN.{length}
+use Prim.Native.Nat.{ℕ, _*_}
 use Rattle.cache.specs.Geometry.{within}
 use Rattle.cache.specs.Step.{tablesOf}
 use Rattle.cache.specs.declared.Geometry.{Geometry}
-use Rattle.trace.specs.File.{geometryOf, stepCount}
-use Rattle.trace.specs.Calls.{listedOf, ontoTables}
+use Rattle.tracefile.proofs.FileLaws.{accepted}
+use Rattle.trace.specs.Calls.{listedOf}
 use Rattle.trace.specs.Inside.{listingBy}
-use Rattle.trace.proofs.ListLaws.{accepted, room, parts-sized, front, listed-is}
+use Rattle.trace.proofs.ListLaws.{room, parts-sized, front, listed-is}
 use borrow.Author.Needs.{needs}
 use Rattle.trace.proofs.list_file.Statement.{statement}
 use Rattle.trace.proofs.list_file.Tie as tie
 
 geometry-requires : tie.Need-geometry-requires
-geometry-requires c κs = (accepted (c .before .before .before .before .before .before .args .file .now) (c .before .before .before .before .before .before .pre .0)) .long
+geometry-requires c κs = search needs
 
 steps-requires : tie.Need-steps-requires
-steps-requires c κs = (accepted (c .before .before .before .before .before .before .before .args .file .now) (c .before .before .before .before .before .before .before .pre .0)) .long
+steps-requires c κs = search needs
 
 mul-cells : tie.Need-mul-cells
 mul-cells c = omega (arith, (room (c .before .before .geometry .result) (tablesOf (c .before .before .before .before .before .before .before .before .before .args .tags .now) (c .before .before .before .before .before .before .before .before .before .args .valid .now) (c .before .before .before .before .before .before .before .before .before .args .dirty .now) (c .before .before .before .before .before .before .before .before .before .args .words .now)) (c .before .before .before .before .before .before .before .before .before .args .out .now) (ap within (c .before .before .geometry .ensures) ∙ (accepted (c .before .before .before .before .before .before .before .before .before .args .file .now) (c .before .before .before .before .before .before .before .before .before .pre .0)) .limits) (c .before .before .before .before .before .before .before .before .before .pre .1)) .cells)
@@ -61,7 +59,7 @@ part-listing-end-4 : tie.Need-part-listing-end-4
 part-listing-end-4 c = (room (c .before .before .before .before .before .geometry .result) (tablesOf (c .before .before .before .before .before .before .before .before .before .before .before .before .args .tags .now) (c .before .before .before .before .before .before .before .before .before .before .before .before .args .valid .now) (c .before .before .before .before .before .before .before .before .before .before .before .before .args .dirty .now) (c .before .before .before .before .before .before .before .before .before .before .before .before .args .words .now)) (c .before .before .before .before .before .before .before .before .before .before .before .before .args .out .now) (ap within (c .before .before .before .before .before .geometry .ensures) ∙ (accepted (c .before .before .before .before .before .before .before .before .before .before .before .before .args .file .now) (c .before .before .before .before .before .before .before .before .before .before .before .before .pre .0)) .limits) (c .before .before .before .before .before .before .before .before .before .before .before .before .pre .1)) .words-room
 
 listing-requires : tie.Need-listing-requires
-listing-requires c κs = ((ap within (c .before .before .before .before .before .before .before .geometry .ensures) ∙ (accepted (c .before .before .before .before .before .before .before .before .before .before .before .before .before .before .args .file .now) (c .before .before .before .before .before .before .before .before .before .before .before .before .before .before .pre .0)) .limits), (parts-sized (c .before .before .before .before .before .before .before .geometry .result) (tablesOf (c .before .before .before .before .before .before .before .before .before .before .before .before .before .before .args .tags .now) (c .before .before .before .before .before .before .before .before .before .before .before .before .before .before .args .valid .now) (c .before .before .before .before .before .before .before .before .before .before .before .before .before .before .args .dirty .now) (c .before .before .before .before .before .before .before .before .before .before .before .before .before .before .args .words .now)) (room (c .before .before .before .before .before .before .before .geometry .result) (tablesOf (c .before .before .before .before .before .before .before .before .before .before .before .before .before .before .args .tags .now) (c .before .before .before .before .before .before .before .before .before .before .before .before .before .before .args .valid .now) (c .before .before .before .before .before .before .before .before .before .before .before .before .before .before .args .dirty .now) (c .before .before .before .before .before .before .before .before .before .before .before .before .before .before .args .words .now)) (c .before .before .before .before .before .before .before .before .before .before .before .before .before .before .args .out .now) (ap within (c .before .before .before .before .before .before .before .geometry .ensures) ∙ (accepted (c .before .before .before .before .before .before .before .before .before .before .before .before .before .before .args .file .now) (c .before .before .before .before .before .before .before .before .before .before .before .before .before .before .pre .0)) .limits) (c .before .before .before .before .before .before .before .before .before .before .before .before .before .before .pre .1)), ((accepted (c .before .before .before .before .before .before .before .before .before .before .before .before .before .before .args .file .now) (c .before .before .before .before .before .before .before .before .before .before .before .before .before .before .pre .0)) .whole ∙ ap (λ (n : ℕ). 8 + 10 * n) (sym (c .before .before .before .before .before .before .steps .ensures .0)), (omega (arith, (c .before .before .before .before .before .before .steps .ensures .0), (accepted (c .before .before .before .before .before .before .before .before .before .before .before .before .before .before .args .file .now) (c .before .before .before .before .before .before .before .before .before .before .before .before .before .before .pre .0)) .short), (c .before .before .before .before .before .before .before .before .before .before .before .before .before .before .pre .1 .out-long)))))
+listing-requires c κs = ((ap within (c .before .before .before .before .before .before .before .geometry .ensures) ∙ (accepted (c .before .before .before .before .before .before .before .before .before .before .before .before .before .before .args .file .now) (c .before .before .before .before .before .before .before .before .before .before .before .before .before .before .pre .0)) .limits), (parts-sized (c .before .before .before .before .before .before .before .geometry .result) (tablesOf (c .before .before .before .before .before .before .before .before .before .before .before .before .before .before .args .tags .now) (c .before .before .before .before .before .before .before .before .before .before .before .before .before .before .args .valid .now) (c .before .before .before .before .before .before .before .before .before .before .before .before .before .before .args .dirty .now) (c .before .before .before .before .before .before .before .before .before .before .before .before .before .before .args .words .now)) (room (c .before .before .before .before .before .before .before .geometry .result) (tablesOf (c .before .before .before .before .before .before .before .before .before .before .before .before .before .before .args .tags .now) (c .before .before .before .before .before .before .before .before .before .before .before .before .before .before .args .valid .now) (c .before .before .before .before .before .before .before .before .before .before .before .before .before .before .args .dirty .now) (c .before .before .before .before .before .before .before .before .before .before .before .before .before .before .args .words .now)) (c .before .before .before .before .before .before .before .before .before .before .before .before .before .before .args .out .now) (ap within (c .before .before .before .before .before .before .before .geometry .ensures) ∙ (accepted (c .before .before .before .before .before .before .before .before .before .before .before .before .before .before .args .file .now) (c .before .before .before .before .before .before .before .before .before .before .before .before .before .before .pre .0)) .limits) (c .before .before .before .before .before .before .before .before .before .before .before .before .before .before .pre .1)), (omega (arith, (c .before .before .before .before .before .before .steps .ensures), (accepted (c .before .before .before .before .before .before .before .before .before .before .before .before .before .before .args .file .now) (c .before .before .before .before .before .before .before .before .before .before .before .before .before .before .pre .0)) .short), (c .before .before .before .before .before .before .before .before .before .before .before .before .before .before .pre .1 .out-long))))
 
 same-length : tie.Need-same-length
 same-length c = search needs
@@ -79,7 +77,7 @@ same-length-5 : tie.Need-same-length-5
 same-length-5 c = search needs
 
 returns : tie.Need-returns
-returns c = let free = room (c .before .before .before .before .before .before .before .before .before .before .before .before .before .before .before .before .before .before .geometry .result) (tablesOf (c .before .before .before .before .before .before .before .before .before .before .before .before .before .before .before .before .before .before .before .before .before .before .before .before .before .args .tags .now) (c .before .before .before .before .before .before .before .before .before .before .before .before .before .before .before .before .before .before .before .before .before .before .before .before .before .args .valid .now) (c .before .before .before .before .before .before .before .before .before .before .before .before .before .before .before .before .before .before .before .before .before .before .before .before .before .args .dirty .now) (c .before .before .before .before .before .before .before .before .before .before .before .before .before .before .before .before .before .before .before .before .before .before .before .before .before .args .words .now)) (c .before .before .before .before .before .before .before .before .before .before .before .before .before .before .before .before .before .before .before .before .before .before .before .before .before .args .out .now) (ap within (c .before .before .before .before .before .before .before .before .before .before .before .before .before .before .before .before .before .before .geometry .ensures) ∙ (accepted (c .before .before .before .before .before .before .before .before .before .before .before .before .before .before .before .before .before .before .before .before .before .before .before .before .before .args .file .now) (c .before .before .before .before .before .before .before .before .before .before .before .before .before .before .before .before .before .before .before .before .before .before .before .before .before .pre .0)) .limits) (c .before .before .before .before .before .before .before .before .before .before .before .before .before .before .before .before .before .before .before .before .before .before .before .before .before .pre .1) in (λ j. listedOf (c .before .before .before .before .before .before .before .before .before .before .listing .result) (c .before .before .before .before .before .before .before .before .before .before .listing .last .1 .1 .1 .1 .1 .1 .1 .0) (tablesOf (front ((c .before .before .before .before .before .before .before .before .before .before .before .before .before .before .before .before .before .before .geometry .result) .sets * (c .before .before .before .before .before .before .before .before .before .before .before .before .before .before .before .before .before .before .geometry .result) .ways) (c .before .before .before .before .before .before .before .before .before .before .before .before .before .before .before .before .before .before .before .before .before .before .before .before .before .args .tags .now) (c .before .before .before .before .before .before .before .before .before .before .listing .last .1 .1 .1 .0) (free .tags-room) (c .before .before .before .before .before .before .before .before .before .before .listing .kept .1 .1 .1 .0) j) (front ((c .before .before .before .before .before .before .before .before .before .before .before .before .before .before .before .before .before .before .geometry .result) .sets) (c .before .before .before .before .before .before .before .before .before .before .before .before .before .before .before .before .before .before .before .before .before .before .before .before .before .args .valid .now) (c .before .before .before .before .before .before .before .before .before .before .listing .last .1 .1 .1 .1 .0) (free .valid-room) (c .before .before .before .before .before .before .before .before .before .before .listing .kept .1 .1 .1 .1 .0) j) (front ((c .before .before .before .before .before .before .before .before .before .before .before .before .before .before .before .before .before .before .geometry .result) .sets) (c .before .before .before .before .before .before .before .before .before .before .before .before .before .before .before .before .before .before .before .before .before .before .before .before .before .args .dirty .now) (c .before .before .before .before .before .before .before .before .before .before .listing .last .1 .1 .1 .1 .1 .0) (free .dirty-room) (c .before .before .before .before .before .before .before .before .before .before .listing .kept .1 .1 .1 .1 .1 .0) j) (front ((c .before .before .before .before .before .before .before .before .before .before .before .before .before .before .before .before .before .before .geometry .result) .sets) (c .before .before .before .before .before .before .before .before .before .before .before .before .before .before .before .before .before .before .before .before .before .before .before .before .before .args .words .now) (c .before .before .before .before .before .before .before .before .before .before .listing .last .1 .1 .1 .1 .1 .1 .0) (free .words-room) (c .before .before .before .before .before .before .before .before .before .before .listing .kept .1 .1 .1 .1 .1 .1 .0) j))) ∙ listed-is (c .before .before .before .before .before .before .before .before .before .before .before .before .before .before .before .before .before .before .before .before .before .before .before .before .before .args .file .now) (c .before .before .before .before .before .before .before .before .before .before .before .before .before .before .before .before .before .before .before .before .before .before .before .before .before .args .out .now) (c .before .before .before .before .before .before .before .before .before .before .listing .last .1 .1 .1 .1 .1 .1 .1 .0) (tablesOf (c .before .before .before .before .before .before .before .before .before .before .before .before .before .before .before .before .before .before .before .before .before .before .before .before .before .args .tags .now) (c .before .before .before .before .before .before .before .before .before .before .before .before .before .before .before .before .before .before .before .before .before .before .before .before .before .args .valid .now) (c .before .before .before .before .before .before .before .before .before .before .before .before .before .before .before .before .before .before .before .before .before .before .before .before .before .args .dirty .now) (c .before .before .before .before .before .before .before .before .before .before .before .before .before .before .before .before .before .before .before .before .before .before .before .before .before .args .words .now)) (tablesOf (c .before .before .before .before .before .before .before .before .before .before .listing .last .1 .1 .1 .0) (c .before .before .before .before .before .before .before .before .before .before .listing .last .1 .1 .1 .1 .0) (c .before .before .before .before .before .before .before .before .before .before .listing .last .1 .1 .1 .1 .1 .0) (c .before .before .before .before .before .before .before .before .before .before .listing .last .1 .1 .1 .1 .1 .1 .0)) (c .before .before .before .before .before .before .before .before .before .before .listing .result) (c .before .before .before .before .before .before .before .before .before .before .before .before .before .before .before .before .before .before .before .before .before .before .before .before .before .pre .0) (c .before .before .before .before .before .before .before .before .before .before .listing .ensures .1) (c .before .before .before .before .before .before .before .before .before .before .before .before .before .before .before .before .before .before .before .before .before .before .before .before .before .pre .1 .out-long) ((c .before .before .before .before .before .before .before .before .before .before .listing .ensures .0) ∙ ap₂ (λ (g : Geometry) (n : ℕ). listingBy g (c .before .before .before .before .before .before .before .before .before .before .before .before .before .before .before .before .before .before .before .before .before .before .before .before .before .args .file .now) n (c .before .before .before .before .before .before .before .before .before .before .before .before .before .before .before .before .before .before .before .before .before .before .before .before .before .args .out .now)) (c .before .before .before .before .before .before .before .before .before .before .before .before .before .before .before .before .before .before .geometry .ensures) (c .before .before .before .before .before .before .before .before .before .before .before .before .before .before .before .before .before .steps .ensures .0))
+returns c = let free = room (c .before .before .before .before .before .before .before .before .before .before .before .before .before .before .before .before .before .before .geometry .result) (tablesOf (c .before .before .before .before .before .before .before .before .before .before .before .before .before .before .before .before .before .before .before .before .before .before .before .before .before .args .tags .now) (c .before .before .before .before .before .before .before .before .before .before .before .before .before .before .before .before .before .before .before .before .before .before .before .before .before .args .valid .now) (c .before .before .before .before .before .before .before .before .before .before .before .before .before .before .before .before .before .before .before .before .before .before .before .before .before .args .dirty .now) (c .before .before .before .before .before .before .before .before .before .before .before .before .before .before .before .before .before .before .before .before .before .before .before .before .before .args .words .now)) (c .before .before .before .before .before .before .before .before .before .before .before .before .before .before .before .before .before .before .before .before .before .before .before .before .before .args .out .now) (ap within (c .before .before .before .before .before .before .before .before .before .before .before .before .before .before .before .before .before .before .geometry .ensures) ∙ (accepted (c .before .before .before .before .before .before .before .before .before .before .before .before .before .before .before .before .before .before .before .before .before .before .before .before .before .args .file .now) (c .before .before .before .before .before .before .before .before .before .before .before .before .before .before .before .before .before .before .before .before .before .before .before .before .before .pre .0)) .limits) (c .before .before .before .before .before .before .before .before .before .before .before .before .before .before .before .before .before .before .before .before .before .before .before .before .before .pre .1) in (λ j. listedOf (c .before .before .before .before .before .before .before .before .before .before .listing .result) (c .before .before .before .before .before .before .before .before .before .before .listing .last .1 .1 .1 .1 .1 .1 .1 .0) (tablesOf (front ((c .before .before .before .before .before .before .before .before .before .before .before .before .before .before .before .before .before .before .geometry .result) .sets * (c .before .before .before .before .before .before .before .before .before .before .before .before .before .before .before .before .before .before .geometry .result) .ways) (c .before .before .before .before .before .before .before .before .before .before .before .before .before .before .before .before .before .before .before .before .before .before .before .before .before .args .tags .now) (c .before .before .before .before .before .before .before .before .before .before .listing .last .1 .1 .1 .0) (free .tags-room) (c .before .before .before .before .before .before .before .before .before .before .listing .kept .1 .1 .1 .0) j) (front ((c .before .before .before .before .before .before .before .before .before .before .before .before .before .before .before .before .before .before .geometry .result) .sets) (c .before .before .before .before .before .before .before .before .before .before .before .before .before .before .before .before .before .before .before .before .before .before .before .before .before .args .valid .now) (c .before .before .before .before .before .before .before .before .before .before .listing .last .1 .1 .1 .1 .0) (free .valid-room) (c .before .before .before .before .before .before .before .before .before .before .listing .kept .1 .1 .1 .1 .0) j) (front ((c .before .before .before .before .before .before .before .before .before .before .before .before .before .before .before .before .before .before .geometry .result) .sets) (c .before .before .before .before .before .before .before .before .before .before .before .before .before .before .before .before .before .before .before .before .before .before .before .before .before .args .dirty .now) (c .before .before .before .before .before .before .before .before .before .before .listing .last .1 .1 .1 .1 .1 .0) (free .dirty-room) (c .before .before .before .before .before .before .before .before .before .before .listing .kept .1 .1 .1 .1 .1 .0) j) (front ((c .before .before .before .before .before .before .before .before .before .before .before .before .before .before .before .before .before .before .geometry .result) .sets) (c .before .before .before .before .before .before .before .before .before .before .before .before .before .before .before .before .before .before .before .before .before .before .before .before .before .args .words .now) (c .before .before .before .before .before .before .before .before .before .before .listing .last .1 .1 .1 .1 .1 .1 .0) (free .words-room) (c .before .before .before .before .before .before .before .before .before .before .listing .kept .1 .1 .1 .1 .1 .1 .0) j))) ∙ listed-is (c .before .before .before .before .before .before .before .before .before .before .before .before .before .before .before .before .before .before .before .before .before .before .before .before .before .args .file .now) (c .before .before .before .before .before .before .before .before .before .before .before .before .before .before .before .before .before .before .before .before .before .before .before .before .before .args .out .now) (c .before .before .before .before .before .before .before .before .before .before .listing .last .1 .1 .1 .1 .1 .1 .1 .0) (tablesOf (c .before .before .before .before .before .before .before .before .before .before .before .before .before .before .before .before .before .before .before .before .before .before .before .before .before .args .tags .now) (c .before .before .before .before .before .before .before .before .before .before .before .before .before .before .before .before .before .before .before .before .before .before .before .before .before .args .valid .now) (c .before .before .before .before .before .before .before .before .before .before .before .before .before .before .before .before .before .before .before .before .before .before .before .before .before .args .dirty .now) (c .before .before .before .before .before .before .before .before .before .before .before .before .before .before .before .before .before .before .before .before .before .before .before .before .before .args .words .now)) (tablesOf (c .before .before .before .before .before .before .before .before .before .before .listing .last .1 .1 .1 .0) (c .before .before .before .before .before .before .before .before .before .before .listing .last .1 .1 .1 .1 .0) (c .before .before .before .before .before .before .before .before .before .before .listing .last .1 .1 .1 .1 .1 .0) (c .before .before .before .before .before .before .before .before .before .before .listing .last .1 .1 .1 .1 .1 .1 .0)) (c .before .before .before .before .before .before .before .before .before .before .listing .result) (c .before .before .before .before .before .before .before .before .before .before .before .before .before .before .before .before .before .before .before .before .before .before .before .before .before .pre .0) (c .before .before .before .before .before .before .before .before .before .before .listing .ensures .1) (c .before .before .before .before .before .before .before .before .before .before .before .before .before .before .before .before .before .before .before .before .before .before .before .before .before .pre .1 .out-long) ((c .before .before .before .before .before .before .before .before .before .before .listing .ensures .0) ∙ ap₂ (λ (g : Geometry) (n : ℕ). listingBy g (c .before .before .before .before .before .before .before .before .before .before .before .before .before .before .before .before .before .before .before .before .before .before .before .before .before .args .file .now) n (c .before .before .before .before .before .before .before .before .before .before .before .before .before .before .before .before .before .before .before .before .before .before .before .before .before .args .out .now)) (c .before .before .before .before .before .before .before .before .before .before .before .before .before .before .before .before .before .before .geometry .ensures) (c .before .before .before .before .before .before .before .before .before .before .before .before .before .before .before .before .before .steps .ensures))
 
 pub list-file-spec : {M : Type 1} → statement M
 list-file-spec =

@@ -5,7 +5,7 @@ use Prim.Native.Nat.{_-_}
 use native.Mathlib.Omega.{arith}
 use Rattle.cache.specs.Step.{tablesOf, outcome}
 use Rattle.cache.specs.Tables.{Lengths}
-use Rattle.trace.specs.Inside.{commandIs}
+use Rattle.tracefile.specs.File.{commandIs}
 use Rattle.trace.proofs.RunLaws.{Running, run-begin, run-turned, run-end}
 use Rattle.trace.proofs.run.Statement.{statement}
 use Rattle.trace.proofs.run.Tie as tie
@@ -17,25 +17,31 @@ abbrev μ-loop : tie.MeasureT-loop
 μ-loop g file steps tags₀ valid₀ dirty₀ words₀ out₀ at all₀ next₀ i₀ tags valid dirty words out all next i = steps - i
 
 loop-holds : tie.Need-loop-holds Inv-loop μ-loop
-loop-holds c = run-begin _ _ _ _ _ _ (c .before .before .before .before .before .before .pre .0) (c .before .before .before .before .before .before .pre .1 .0) (c .before .before .before .before .before .before .pre .1 .1)
+loop-holds c = run-begin _ _ _ _ _ _ (c .before .before .before .before .before .before .pre)
 
 command-at-requires : tie.Need-command-at-requires Inv-loop μ-loop
-command-at-requires c κs = ((c .before .loop .inv .whole), ((c .before .loop .inv .short), (c .loop-test .taken)))
+command-at-requires c κs = search needs
+
+cast-step : tie.Need-cast-step Inv-loop μ-loop
+cast-step c = search needs
 
 step-requires : tie.Need-step-requires Inv-loop μ-loop
 step-requires c κs = search needs
 
+cast-answer : tie.Need-cast-answer Inv-loop μ-loop
+cast-answer c = omega (arith, (c .before .before .before .before .before .before .before .before .before .before .before .before .before .before .before .before .loop-test .taken), (c .before .before .before .before .before .before .before .before .before .before .before .before .before .before .before .before .before .before .before .before .before .before .before .before .fits .steps))
+
 answer-requires : tie.Need-answer-requires Inv-loop μ-loop
-answer-requires c κs = omega (arith, (c .before .before .before .before .before .before .before .before .before .before .before .before .before .before .before .before .before .loop .inv .fits), (c .before .before .before .before .before .before .before .before .before .before .before .before .before .before .before .before .before .loop .inv .long), (c .before .before .before .before .before .before .before .before .before .before .before .before .before .before .before .before .before .loop .inv .behind), (c .before .before .before .before .before .before .before .before .before .before .before .before .before .before .before .before .loop-test .taken))
+answer-requires c κs = omega (arith, (c .before .before .before .before .before .before .before .before .before .before .before .before .before .before .before .before .before .before .loop .inv .fits), (c .before .before .before .before .before .before .before .before .before .before .before .before .before .before .before .before .before .before .loop .inv .long), (c .before .before .before .before .before .before .before .before .before .before .before .before .before .before .before .before .before .before .loop .inv .behind), (c .before .before .before .before .before .before .before .before .before .before .before .before .before .before .before .before .before .loop-test .taken))
 
 add-i : tie.Need-add-i Inv-loop μ-loop
-add-i c = omega arith
+add-i c = omega (arith, (c .before .before .before .before .before .before .before .before .before .before .before .before .before .before .before .before .before .before .before .before .loop-test .taken), (c .before .before .before .before .before .before .before .before .before .before .before .before .before .before .before .before .before .before .before .before .before .before .before .before .before .before .before .before .fits .steps))
 
 loop-less : tie.Need-loop-less Inv-loop μ-loop
 loop-less c = omega arith
 
 loop-again : tie.Need-loop-again Inv-loop μ-loop
-loop-again c = let kept = (c .before .before .before .before .before .before .before .before .before .before .before .before .before .step .kept) in run-turned (commandIs (c .before .before .before .before .before .before .before .before .before .before .before .before .before .before .before .before .before .before .command-at .result)) _ (c .before .before .before .before .before .before .before .before .before .before .before .before .before .before .before .before .before .before .before .before .loop .inv) (c .before .before .before .before .before .before .before .before .before .before .before .before .before .before .before .before .before .before .before .loop-test .taken) (c .before .before .before .before .before .before .before .before .before .before .before .before .before .before .before .before .before .before .command-at .ensures) (c .before .before .before .before .before .before .before .before .before .before .before .before .before .step .ensures) (λ j. record { tags = kept .1 .0 j; valid = kept .1 .1 .0 j; dirty = kept .1 .1 .1 .0 j; words = kept .1 .1 .1 .1 .0 j }) (c .before .before .answer .ensures .0) (c .before .before .answer .ensures .1)
+loop-again c = let kept = (c .before .before .before .before .before .before .before .before .before .before .before .before .before .step .kept) in run-turned (commandIs (c .before .before .before .before .before .before .before .before .before .before .before .before .before .before .before .before .before .before .before .command-at .result)) _ (c .before .before .before .before .before .before .before .before .before .before .before .before .before .before .before .before .before .before .before .before .before .loop .inv) (c .before .before .before .before .before .before .before .before .before .before .before .before .before .before .before .before .before .before .before .before .loop-test .taken) (c .before .before .before .before .before .before .before .before .before .before .before .before .before .before .before .before .before .before .before .command-at .ensures) (c .before .before .before .before .before .before .before .before .before .before .before .before .before .step .ensures) (λ j. record { tags = kept .1 .0 j; valid = kept .1 .1 .0 j; dirty = kept .1 .1 .1 .0 j; words = kept .1 .1 .1 .1 .0 j }) (c .before .before .answer .ensures .0) (c .before .before .answer .ensures .1)
 
 same-length : tie.Need-same-length Inv-loop μ-loop
 same-length c = ap (λ (n : Lengths). n .tags) (c .before .loop .inv .tables-long)
@@ -63,7 +69,9 @@ run-spec =
     μ-loop
     loop-holds
     command-at-requires
+    cast-step
     step-requires
+    cast-answer
     answer-requires
     add-i
     loop-less

@@ -1,7 +1,7 @@
--- `trace::file::geometry` meets its contract.
+-- `tracefile::geometry` meets its contract.
 use borrow.Author.Needs.{needs}
-use Rattle.trace.proofs.file.geometry.Statement.{statement}
-use Rattle.trace.proofs.file.geometry.Tie as tie
+use Rattle.tracefile.proofs.geometry.Statement.{statement}
+use Rattle.tracefile.proofs.geometry.Tie as tie
 
 field-requires : tie.Need-field-requires
 field-requires c κs = search needs

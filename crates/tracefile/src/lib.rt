@@ -1,19 +1,29 @@
-// What a trace file says.
+// What a trace file says, for bytes of any content and number.
 use cache::Geometry;
 ghost use mathlib.Core.Path.{_≡_};
 ghost use Prim.Native.Nat.{_+_, _*_, _^_, _≤_, _<_};
-ghost use lib.ListN.{length};
-ghost use Rattle.trace.specs.File.{field as fieldOf, geometryOf, stepCount, commandAt, fileRefusal};
-ghost use Rattle.trace.specs.Inside.{commandIs};
+ghost use lib.ListN.{getD};
+ghost use Rattle.tracefile.specs.File.{field as fieldOf, geometryOf, stepCount, commandAt, commandIs, fileRefusal};
 
 // The most steps of a trace.
 const MAX_STEPS: usize = 4096;
 
 // A step to take.
 pub struct Command {
-    pub domain: usize,
+    pub domain: u8,
     pub kind: u8,
     pub argument: u64,
+}
+
+// A byte of the file; 0 behind its end.
+fn byte(file: &[u8], at: usize) -> u64
+    ensures { λ r. ⌜ r ≡ getD (now (file .entry)) at 0 ⌝ }
+    ensures { λ r. ⌜ r < 256 ⌝ }
+{
+    if at < file.len() {
+        return wide(file[at]);
+    }
+    0
 }
 
 fn wide(byte: u8) -> u64
@@ -26,7 +36,7 @@ fn wide(byte: u8) -> u64
 // The value of the n bytes from byte `at` on, little-endian.
 fn field(file: &[u8], at: usize, n: usize) -> u64
     requires { ⌜ n ≤ 8 ⌝ }
-    requires { ⌜ at + n ≤ length (now file) ⌝ }
+    requires { ⌜ at ≤ 1099511627776 ⌝ }
     ensures { λ r. ⌜ r ≡ fieldOf at n (now (file .entry)) ⌝ }
     ensures { λ r. ⌜ r < 256 ^ n ⌝ }
 {
@@ -34,13 +44,13 @@ fn field(file: &[u8], at: usize, n: usize) -> u64
     let mut k = n;
     while 0 < k {
         k -= 1;
-        value = wide(file[at + k]) + 256 * value;
+        value = byte(file, at + k) + 256 * value;
     }
     value
 }
 
+// The geometry that a file names.
 pub fn geometry(file: &[u8]) -> Geometry
-    requires { ⌜ 8 ≤ length (now file) ⌝ }
     ensures { λ r. ⌜ r ≡ geometryOf (now (file .entry)) ⌝ }
 {
     Geometry {
@@ -50,25 +60,23 @@ pub fn geometry(file: &[u8]) -> Geometry
     }
 }
 
-pub fn steps(file: &[u8]) -> usize
-    requires { ⌜ 8 ≤ length (now file) ⌝ }
+// The number of steps that it names.
+pub fn steps(file: &[u8]) -> u32
     ensures { λ r. ⌜ r ≡ stepCount (now (file .entry)) ⌝ }
-    ensures { λ r. ⌜ r < 4294967296 ⌝ }
 {
-    field(file, 4, 4) as usize
+    field(file, 4, 4) as u32
 }
 
-// Step i of a file of so many steps.
-pub fn command_at(file: &[u8], steps: usize, i: usize) -> Command
-    requires { ⌜ length (now file) ≡ 8 + 10 * steps ⌝ }
-    requires { ⌜ steps ≤ 4096 ⌝ }
-    requires { ⌜ i < steps ⌝ }
-    ensures { λ r. ⌜ commandIs r ≡ commandAt (now (file .entry)) steps i ⌝ }
+// Step i of a file of n steps.
+pub fn command_at(file: &[u8], n: u32, i: u32) -> Command
+    ensures { λ r. ⌜ commandIs r ≡ commandAt (now (file .entry)) n i ⌝ }
 {
-    let code = field(file, 8 + 2 * i, 2);
-    let argument = field(file, 8 + 2 * steps + 8 * i, 8);
+    let before = 2 * (n as usize);
+    let place = i as usize;
+    let code = field(file, 8 + 2 * place, 2);
+    let argument = field(file, 8 + before + 8 * place, 8);
     Command {
-        domain: (code % 256) as usize,
+        domain: (code % 256) as u8,
         kind: (code / 256) as u8,
         argument,
     }
@@ -81,7 +89,7 @@ pub fn refusal(file: &[u8]) -> usize
     if file.len() < 8 {
         return 10;
     }
-    let n = steps(file);
+    let n = steps(file) as usize;
     if file.len() != 8 + 10 * n {
         return 10;
     }

@@ -1,8 +1,11 @@
--- `trace::file::command_at` meets its contract.
+-- `tracefile::command_at` meets its contract.
 use Rattle.isolation.specs.Calls.{commandOf}
 use borrow.Author.Needs.{needs}
-use Rattle.trace.proofs.file.command_at.Statement.{statement}
-use Rattle.trace.proofs.file.command_at.Tie as tie
+use Rattle.tracefile.proofs.command_at.Statement.{statement}
+use Rattle.tracefile.proofs.command_at.Tie as tie
+
+mul-before : tie.Need-mul-before
+mul-before c = search needs
 
 mul-field : tie.Need-mul-field
 mul-field c = search needs
@@ -13,14 +16,11 @@ add-field c = search needs
 field-requires : tie.Need-field-requires
 field-requires c κs = search needs
 
-mul-field-2 : tie.Need-mul-field-2
-mul-field-2 c = search needs
-
 add-field-2 : tie.Need-add-field-2
 add-field-2 c = search needs
 
-mul-field-3 : tie.Need-mul-field-3
-mul-field-3 c = search needs
+mul-field-2 : tie.Need-mul-field-2
+mul-field-2 c = search needs
 
 add-field-3 : tie.Need-add-field-3
 add-field-3 c = search needs
@@ -31,6 +31,9 @@ field-requires-2 c κs = search needs
 cast-t12 : tie.Need-cast-t12
 cast-t12 c = search needs
 
+cast-t14 : tie.Need-cast-t14
+cast-t14 c = search needs
+
 returns : tie.Need-returns
 unfolding commandOf
 returns c = rw ((c .before .field .ensures .0), (c .field2 .ensures .0))
@@ -39,13 +42,14 @@ pub command-at-spec : {M : Type 1} → statement M
 command-at-spec =
     tie.close
     (tie.spec
+    mul-before
     mul-field
     add-field
     field-requires
-    mul-field-2
     add-field-2
-    mul-field-3
+    mul-field-2
     add-field-3
     field-requires-2
     cast-t12
+    cast-t14
     returns)

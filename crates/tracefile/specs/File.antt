@@ -8,6 +8,7 @@ use Rattle.cache.specs.Geometry.{within}
 use Rattle.cache.specs.Run.{Command}
 use Rattle.cache.specs.declared.Geometry.{Geometry}
 use Rattle.isolation.specs.Calls.{commandOf}
+use Rattle.tracefile.specs.declared.Command.{Command as Given}
 
 -- "little-endian": the value of some bytes.
 unfoldable pub value : List ℕ → ℕ
@@ -49,3 +50,7 @@ badFile file =
 -- The number by which a file is refused, or 0: 10 "comes before all others", then the geometry's 1.
 unfoldable pub fileRefusal : List ℕ → ℕ
 fileRefusal file = cond (badFile file) 10 (cond (not (within (geometryOf file))) 1 0)
+
+-- A step as the call that reads it gives it.
+abbrev pub commandIs : Given → Command
+commandIs c = record { domain = c .domain; kind = c .kind; argument = c .argument }

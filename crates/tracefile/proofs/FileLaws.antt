@@ -6,31 +6,40 @@ use Prim.Native.Nat.{ℕ, zero, suc, _+_, _-_, _*_, _/_, _%_, _^_, _≤_, _<_}
 use native.Mathlib.Nat.{add-zero, pow-suc, pow-le-pow-right}
 use native.Mathlib.Omega.{arith}
 use lib.Dec.{eqb, ltb}
-use lib.ListN.{length, take, drop, getD}
-use lib.Seq.{drop-cons}
-use borrow.Author.Tests.{lt-ltb, le-ltb, eq-eqb, ne-eqb}
+use lib.ListN.{length, take, drop, getD, List·getD-eq-default}
+use lib.Seq.{take-nil, drop-nil}
+use borrow.Author.Tests.{ltb-false, eqb-true, lt-ltb, le-ltb, eq-eqb, ne-eqb}
+use Rattle.waymap.proofs.Booleans.{cases}
 use Rattle.cache.specs.Geometry.{within}
-use Rattle.trace.specs.File.{value, field, geometryOf, stepCount, maxSteps, badFile, fileRefusal}
+use Rattle.tracefile.specs.File.{value, field, geometryOf, stepCount, maxSteps, badFile, fileRefusal}
 
 -- ---- a field
 
-field-next : (file : List ℕ) (i m z : ℕ) → i < length file → field i (suc m) file ≡ getD file i z + 256 * field (suc i) m file
-unfolding field value
-field-next file i m z h = rw (drop-cons file i z h)
+-- Behind the file's end there are no bytes.
+drop-next : (file : List ℕ) (i m : ℕ) → value (take (suc m) (drop i file)) ≡ getD file i 0 + 256 * value (take m (drop (suc i) file))
+unfolding value
+drop-next [] i m =
+    rw (drop-nil {A = ℕ} i, drop-nil {A = ℕ} (suc i), take-nil {A = ℕ} m, List·getD-eq-default {A = ℕ} [] 0 {n = i} (omega arith))
+drop-next (b ∷ file) zero m = refl
+drop-next (b ∷ file) (suc i) m = drop-next file i m
+
+field-next : (file : List ℕ) (i m : ℕ) → field i (suc m) file ≡ getD file i 0 + 256 * field (suc i) m file
+unfolding field
+field-next file i m = drop-next file i m
 
 -- With the bytes from k on read: their value.
 pub record Reading (file : List ℕ) (at n value k : ℕ) : Type 0 where
   pub short : n ≤ 8
+  pub near : at ≤ 1099511627776
   pub inside : k ≤ n
-  pub fits : at + n ≤ length file
   pub is : value ≡ field (at + k) (n - k) file
   pub bound : value < 256 ^ (n - k)
 
-pub read-begin : (file : List ℕ) (at n : ℕ) → n ≤ 8 → at + n ≤ length file → Reading file at n 0 n
+pub read-begin : (file : List ℕ) (at n : ℕ) → n ≤ 8 → at ≤ 1099511627776 → Reading file at n 0 n
 unfolding field value
 read-begin file at n s h =
     let none : n - n ≡ 0 = omega arith in
-    record { short = s; inside = omega arith; fits = h; is = rw none; bound = rw none (omega arith) }
+    record { short = s; near = h; inside = omega arith; is = rw none; bound = rw none (omega arith) }
 
 -- The value leaves room for one byte more.
 pub read-room : {file : List ℕ} {at n v k : ℕ} → Reading file at n v k → 0 < k → v < 72057594037927936
@@ -39,18 +48,16 @@ read-room {file} {at} {n} {v} {k} p h =
     let most : 256 ^ (n - k) ≤ 256 ^ 7 = pow-le-pow-right {n = 256} (omega arith) few in
     omega (arith, p .bound)
 
-pub read-turned : {file : List ℕ} {at n v k b : ℕ} (z : ℕ) → Reading file at n v k → 0 < k → b ≡ getD file (at + (k - 1)) z → b < 256
+pub read-turned : {file : List ℕ} {at n v k b : ℕ} → Reading file at n v k → 0 < k → b ≡ getD file (at + (k - 1)) 0 → b < 256
     → Reading file at n (b + 256 * v) (k - 1)
-read-turned {file} {at} {n} {v} {k} {b} z p h e l =
+read-turned {file} {at} {n} {v} {k} {b} p h e l =
     let more : n - (k - 1) ≡ suc (n - k) = omega (arith, p .inside) in
     let next : suc (at + (k - 1)) ≡ at + k = omega arith in
     record {
       short = p .short;
+      near = p .near;
       inside = omega (arith, p .inside);
-      fits = p .fits;
-      is =
-          rw (more, field-next file (at + (k - 1)) (n - k) z (omega (arith, p .fits, p .inside)), next)
-          (ap₂ (λ (x y : ℕ). x + 256 * y) e (p .is));
+      is = rw (more, field-next file (at + (k - 1)) (n - k), next) (ap₂ (λ (x y : ℕ). x + 256 * y) e (p .is));
       bound = rw (more, pow-suc 256 (n - k)) (omega (arith, p .bound));
     }
 
@@ -83,3 +90,32 @@ pub good-file : (file : List ℕ) → 8 ≤ length file → length file ≡ 8 + 
 unfolding fileRefusal badFile
 good-file file h e m =
     rw (le-ltb (length file) 8 h, eq-eqb (length file) (8 + 10 * stepCount file) e, le-ltb maxSteps (stepCount file) m)
+
+-- ---- a file that is not refused
+
+pub record Accepted (file : List ℕ) : Type 0 where
+  pub long : 8 ≤ length file
+  pub whole : length file ≡ 8 + 10 * stepCount file
+  pub short : stepCount file ≤ 4096
+  pub limits : within (geometryOf file) ≡ true
+
+pub accepted : (file : List ℕ) → fileRefusal file ≡ 0 → Accepted file
+unfolding fileRefusal badFile
+accepted file e =
+    cases (ltb (length file) 8)
+    (λ a. absurd (nonzero 9 (rw a at e)))
+    (λ a. cases (eqb (length file) (8 + 10 * stepCount file))
+    (λ b. cases (ltb maxSteps (stepCount file))
+    (λ d. absurd (nonzero 9 (rw (a, b, d) at e)))
+    (λ d. cases (within (geometryOf file))
+    (λ w. record {
+      long = ltb-false (length file) 8 a;
+      whole = eqb-true (length file) (8 + 10 * stepCount file) b;
+      short = ltb-false maxSteps (stepCount file) d;
+      limits = w;
+    })
+    (λ w. absurd (nonzero 0 (rw (a, b, d, w) at e)))))
+    (λ b. absurd (nonzero 9 (rw (a, b) at e))))
+  where
+    nonzero : (n : ℕ) → suc n ≡ 0 → ⊥
+    nonzero n q = omega arith

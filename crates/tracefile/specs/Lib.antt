@@ -1,0 +1,2 @@
+-- The trace file: document 01, "Trace file and listing".
+pub mod File
