@@ -1,0 +1,151 @@
+// Writes the steps that are left of the trace file on standard input when the purge of a domain strikes out the others' accesses and
+// flushes: a line for each step, with its domain, kind and argument. The domain is the first argument. A file that is refused by 10, and
+// an argument that is no number below 16, give nothing.
+use libc::STDIN_FILENO;
+use libc::STDOUT_FILENO;
+ghost use Prim.Native.Nat.{_≤_};
+ghost use lib.ListN.{length};
+
+// A number below 16 in decimal, or 16 for anything else.
+fn domain_of(text: &[u8]) -> usize {
+    let n = text.len();
+    if n == 0 {
+        return 16;
+    }
+    if 2 < n {
+        return 16;
+    }
+    if n == 1 {
+        return digit(text[0]);
+    }
+    if text[0] == b'1' {
+        return teen(digit(text[1]));
+    }
+    16
+}
+
+// The value of a digit, or 16 for another byte.
+fn digit(byte: u8) -> usize
+    ensures { λ r. ⌜ r ≤ 16 ⌝ }
+{
+    if byte < b'0' {
+        return 16;
+    }
+    if b'9' < byte {
+        return 16;
+    }
+    (byte - b'0') as usize
+}
+
+// Ten and a digit, if that is below 16; else 16.
+fn teen(digit: usize) -> usize {
+    if digit < 6 {
+        return 10 + digit;
+    }
+    16
+}
+
+// A step's code: its domain plus 256 times its kind.
+fn code_of(domain: u8, kind: u8) -> u16 {
+    (domain as u16) + 256 * (kind as u16)
+}
+
+// The codes and arguments of the steps of a file.
+fn split(file: &[u8], n: u32, codes: &mut [u16], arguments: &mut [u64])
+    requires { ⌜ n ≤ length (now codes) ⌝ }
+    requires { ⌜ n ≤ length (now arguments) ⌝ }
+{
+    let mut i = 0u32;
+    while i < n {
+        let command = tracefile::command_at(file, n, i);
+        let place = i as usize;
+        codes[place] = code_of(command.domain, command.kind);
+        arguments[place] = command.argument;
+        i += 1;
+    }
+}
+
+// Writes a line for each of the first steps.
+fn show(codes: &[u16], arguments: &[u64], count: usize)
+    requires { ⌜ count ≤ length (now codes) ⌝ }
+    requires { ⌜ count ≤ length (now arguments) ⌝ }
+{
+    let mut i = 0;
+    while i < count {
+        show_step(codes[i], arguments[i]);
+        i += 1;
+    }
+}
+
+fn show_step(code: u16, argument: u64) {
+    io::print_decimal(STDOUT_FILENO, (code % 256) as u64);
+    io::write_all(STDOUT_FILENO, b" ");
+    io::print_decimal(STDOUT_FILENO, (code / 256) as u64);
+    io::write_all(STDOUT_FILENO, b" ");
+    io::print_decimal(STDOUT_FILENO, argument);
+    io::write_all(STDOUT_FILENO, b"\n");
+}
+
+// Writes the steps of a file that the purge of a domain keeps.
+fn purge(
+    file: &[u8],
+    domain: usize,
+    codes: &mut [u16],
+    arguments: &mut [u64],
+    kept_codes: &mut [u16],
+    kept_arguments: &mut [u64],
+) {
+    let n = tracefile::steps(file);
+    let steps = n as usize;
+    if codes.len() < steps {
+        return;
+    }
+    if arguments.len() < steps {
+        return;
+    }
+    if kept_codes.len() < steps {
+        return;
+    }
+    if kept_arguments.len() < steps {
+        return;
+    }
+    split(file, n, codes, arguments);
+    let purged = isolation::purge_trace(
+        domain,
+        &codes[0..steps],
+        &arguments[0..steps],
+        &mut kept_codes[0..steps],
+        &mut kept_arguments[0..steps],
+    );
+    let count = purged.count;
+    if steps < count {
+        return;
+    }
+    show(kept_codes, kept_arguments, count);
+}
+
+fn main() {
+    let mut name = [0u8; 4];
+    let length = os::arg(1, &mut name);
+    let domain = domain_of(&name[..length]);
+    if 16 <= domain {
+        return;
+    }
+    let mut file = [0u8; 40969];
+    let count = io::read_full(STDIN_FILENO, &mut file);
+    if tracefile::refusal(&file[..count]) == 10 {
+        return;
+    }
+    let mut codes = [0u16; 4096];
+    let mut arguments = [0u64; 4096];
+    let mut kept_codes = [0u16; 4096];
+    let mut kept_arguments = [0u64; 4096];
+    purge(
+        &file[..count],
+        domain,
+        &mut codes,
+        &mut arguments,
+        &mut kept_codes,
+        &mut kept_arguments,
+    );
+}

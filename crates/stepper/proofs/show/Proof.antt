@@ -1,0 +1,52 @@
+-- `stepper::show` meets its contract.
+use mathlib.Core.Path.{sym}
+use native.Mathlib.Omega.{arith}
+use lib.Seq.{length-take-le}
+use borrow.Author.Needs.{needs}
+use Rattle.stepper.proofs.show.Statement.{statement}
+use Rattle.stepper.proofs.show.Tie as tie
+
+put-maps-requires : tie.Need-put-maps-requires
+put-maps-requires c κs = search needs
+
+put-requires : tie.Need-put-requires
+put-requires c κs = search needs
+
+sub-put : tie.Need-sub-put
+sub-put c = search needs
+
+put-requires-2 : tie.Need-put-requires-2
+put-requires-2 c κs = search needs
+
+put-rows-requires : tie.Need-put-rows-requires
+put-rows-requires c κs = search needs
+
+slice-reshare-prefix-write-all : tie.Need-slice-reshare-prefix-write-all
+slice-reshare-prefix-write-all c = search needs
+
+slice-aggregate-write-all : tie.Need-slice-aggregate-write-all
+slice-aggregate-write-all c = sym (length-take-le (c .before .before .before .put-rows .result) (c .before .before .before .put-rows .last .1 .1 .1 .1 .1 .1 .1 .0) (omega (arith, (c .before .before .before .put-rows .ensures), (c .before .before .before .put-rows .kept .1 .1 .1 .1 .1 .1 .1 .0), (c .before .before .before .before .before .before .before .put2 .kept .1 .1 .0), (c .before .before .before .before .before .before .before .before .before .before .before .put .kept .1 .1 .0), (c .before .before .before .before .before .before .before .before .before .before .before .before .before .before .before .put-maps .kept .1 .0), (c .before .before .before .before .before .before .before .before .before .before .before .before .before .before .before .before .before .before .before .before .before .before .pre .1 .1 .1 .1))))
+
+write-all-requires : tie.Need-write-all-requires
+write-all-requires c κs = search needs
+
+same-length : tie.Need-same-length
+same-length c = search needs
+
+returns : tie.Need-returns
+returns c = search needs
+
+pub show-spec : {M : Type 1} → statement M
+show-spec =
+    tie.close
+    (tie.spec
+    put-maps-requires
+    put-requires
+    sub-put
+    put-requires-2
+    put-rows-requires
+    slice-reshare-prefix-write-all
+    slice-aggregate-write-all
+    write-all-requires
+    same-length
+    returns)

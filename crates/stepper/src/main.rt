@@ -1,0 +1,328 @@
+// Writes what the cache holds before the first step and after each step of the trace file on standard input, as numbers in bytes, the
+// lowest byte first. A block for each: the hit map and the fill map of the sixteen domains (2 bytes each), the set of the step's argument
+// (2), the number of rows that follow (2), and the rows: set (2), valid map (2), dirty map (2), replacement word (8), tags (8 each). An
+// access or a flush has the row of its set, a policy change has all rows, and so has the block before the first step; other steps have
+// none. A refused file gives nothing.
+use cache::Domains;
+use cache::Geometry;
+use libc::STDIN_FILENO;
+use libc::STDOUT_FILENO;
+ghost use mathlib.Core.Path.{_≡_};
+ghost use Prim.Native.Nat.{_+_, _*_, _≤_, _<_};
+ghost use lib.ListN.{length};
+ghost use Rattle.stepper.specs.Room.{Room, Small};
+
+// Puts the n low bytes of a value, and answers the place after them.
+fn put(value: u64, n: usize, out: &mut [u8], at: usize) -> usize
+    requires { ⌜ at + n ≤ length (now out) ⌝ }
+    ensures { λ r. ⌜ r ≡ at + n ⌝ }
+{
+    let mut rest = value;
+    let mut i = 0;
+    while i < n {
+        out[at + i] = (rest % 256) as u8;
+        rest /= 256;
+        i += 1;
+    }
+    at + n
+}
+
+// Puts the domains' maps, 64 bytes, at the front.
+fn put_maps(domains: Domains, out: &mut [u8])
+    requires { ⌜ 64 ≤ length (now out) ⌝ }
+{
+    let mut d = 0;
+    while d < 16 {
+        let own = domains.records[d];
+        put(own.hit as u64, 2, out, 4 * d);
+        put(own.fill as u64, 2, out, 4 * d + 2);
+        d += 1;
+    }
+}
+
+// Where the tags of a set begin.
+fn start_of(set: usize, ways: usize) -> usize
+    requires { ⌜ set ≤ 256 ⌝ }
+    requires { ⌜ ways ≤ 16 ⌝ }
+    ensures { λ r. ⌜ r ≤ 16 * set ⌝ }
+{
+    set * ways
+}
+
+// Puts some tags.
+fn put_tags(tags: &[u64], start: usize, ways: usize, out: &mut [u8], at: usize) -> usize
+    requires { ⌜ start + ways ≤ length (now tags) ⌝ }
+    requires { ⌜ at + 8 * ways ≤ length (now out) ⌝ }
+    ensures { λ r. ⌜ r ≡ at + 8 * ways ⌝ }
+{
+    let mut w = 0;
+    while w < ways {
+        put(tags[start + w], 8, out, at + 8 * w);
+        w += 1;
+    }
+    at + 8 * ways
+}
+
+fn wide(map: u16) -> u64 {
+    map as u64
+}
+
+// Puts a set's row.
+fn put_row(
+    ways: usize,
+    set: usize,
+    tags: &[u64],
+    valid: &[u16],
+    dirty: &[u16],
+    words: &[u64],
+    out: &mut [u8],
+    at: usize,
+) -> usize
+    requires { ⌜ Room (length (now tags)) (length (now valid)) (length (now dirty)) (length (now words)) ⌝ }
+    requires { ⌜ set < 256 ⌝ }
+    requires { ⌜ ways ≤ 16 ⌝ }
+    requires { ⌜ at + 142 ≤ length (now out) ⌝ }
+    ensures { λ r. ⌜ r ≤ at + 142 ⌝ }
+{
+    put(set as u64, 2, out, at);
+    put(wide(valid[set]), 2, out, at + 2);
+    put(wide(dirty[set]), 2, out, at + 4);
+    put(words[set], 8, out, at + 6);
+    put_tags(tags, start_of(set, ways), ways, out, at + 14)
+}
+
+// Puts the rows of the sets from `from` up to `to`.
+fn put_rows(
+    ways: usize,
+    from: usize,
+    to: usize,
+    tags: &[u64],
+    valid: &[u16],
+    dirty: &[u16],
+    words: &[u64],
+    out: &mut [u8],
+    at: usize,
+) -> usize
+    requires { ⌜ Room (length (now tags)) (length (now valid)) (length (now dirty)) (length (now words)) ⌝ }
+    requires { ⌜ from ≤ to ⌝ }
+    requires { ⌜ to ≤ 256 ⌝ }
+    requires { ⌜ ways ≤ 16 ⌝ }
+    requires { ⌜ at + 36352 ≤ length (now out) ⌝ }
+    ensures { λ r. ⌜ r ≤ at + 36352 ⌝ }
+{
+    let mut next = at;
+    let mut set = from;
+    while set < to {
+        next = put_row(ways, set, tags, valid, dirty, words, out, next);
+        set += 1;
+    }
+    next
+}
+
+// The sets of a block's rows.
+pub struct Span {
+    pub from: usize,
+    pub to: usize,
+}
+
+fn span_of(kind: u8, set: usize, sets: usize) -> Span
+    requires { ⌜ set < sets ⌝ }
+    requires { ⌜ sets ≤ 256 ⌝ }
+    ensures { λ r. ⌜ r .from ≤ r .to ⌝ }
+    ensures { λ r. ⌜ r .to ≤ 256 ⌝ }
+{
+    if kind < 4 {
+        return Span {
+            from: set,
+            to: set + 1,
+        };
+    }
+    if kind == 16 {
+        return Span { from: 0, to: sets };
+    }
+    Span { from: 0, to: 0 }
+}
+
+// The set of an address.
+fn set_of(address: u64, sets: usize) -> usize
+    requires { ⌜ 0 < sets ⌝ }
+    ensures { λ r. ⌜ r < sets ⌝ }
+{
+    (address / 64 % (sets as u64)) as usize
+}
+
+// Writes a block.
+fn show(
+    ways: usize,
+    domains: Domains,
+    set: usize,
+    span: Span,
+    tags: &[u64],
+    valid: &[u16],
+    dirty: &[u16],
+    words: &[u64],
+    out: &mut [u8],
+)
+    requires { ⌜ Room (length (now tags)) (length (now valid)) (length (now dirty)) (length (now words)) ⌝ }
+    requires { ⌜ span .from ≤ span .to ⌝ }
+    requires { ⌜ span .to ≤ 256 ⌝ }
+    requires { ⌜ ways ≤ 16 ⌝ }
+    requires { ⌜ 36420 ≤ length (now out) ⌝ }
+{
+    let from = span.from;
+    let to = span.to;
+    put_maps(domains, out);
+    put(set as u64, 2, out, 64);
+    put((to - from) as u64, 2, out, 66);
+    let n = put_rows(ways, from, to, tags, valid, dirty, words, out, 68);
+    io::write_all(STDOUT_FILENO, &out[..n]);
+}
+
+// Takes step i on the front of the tables, and writes its block. The domains after it are answered.
+fn take_step(
+    g: Geometry,
+    cells: usize,
+    file: &[u8],
+    n: u32,
+    i: u32,
+    tags: &mut [u64],
+    valid: &mut [u16],
+    dirty: &mut [u16],
+    words: &mut [u64],
+    domains: Domains,
+    out: &mut [u8],
+) -> Domains
+    requires { ⌜ Room (length (now tags)) (length (now valid)) (length (now dirty)) (length (now words)) ⌝ }
+    requires { ⌜ Small (g .sets) (g .ways) cells ⌝ }
+    requires { ⌜ 36420 ≤ length (now out) ⌝ }
+{
+    let sets = g.sets;
+    let command = tracefile::command_at(file, n, i);
+    let stepped = cache::step(
+        g,
+        &mut tags[0..cells],
+        &mut valid[0..sets],
+        &mut dirty[0..sets],
+        &mut words[0..sets],
+        domains,
+        command.domain as usize,
+        command.kind,
+        command.argument,
+    );
+    let set = set_of(command.argument, sets);
+    let next = stepped.domains;
+    let span = span_of(command.kind, set, sets);
+    show(g.ways, next, set, span, tags, valid, dirty, words, out);
+    next
+}
+
+// Writes the blocks of a file that is not refused.
+fn run(
+    g: Geometry,
+    cells: usize,
+    file: &[u8],
+    tags: &mut [u64],
+    valid: &mut [u16],
+    dirty: &mut [u16],
+    words: &mut [u64],
+    out: &mut [u8],
+)
+    requires { ⌜ Room (length (now tags)) (length (now valid)) (length (now dirty)) (length (now words)) ⌝ }
+    requires { ⌜ Small (g .sets) (g .ways) cells ⌝ }
+    requires { ⌜ 36420 ≤ length (now out) ⌝ }
+{
+    let mut domains = begin(g, cells, tags, valid, dirty, words, out);
+    let n = tracefile::steps(file);
+    let mut i = 0u32;
+    while i < n {
+        domains = take_step(
+            g,
+            cells,
+            file,
+            n,
+            i,
+            tags,
+            valid,
+            dirty,
+            words,
+            domains,
+            out,
+        );
+        i += 1;
+    }
+}
+
+// Makes the front of the tables fresh, and writes the first block.
+fn begin(
+    g: Geometry,
+    cells: usize,
+    tags: &mut [u64],
+    valid: &mut [u16],
+    dirty: &mut [u16],
+    words: &mut [u64],
+    out: &mut [u8],
+) -> Domains
+    requires { ⌜ Room (length (now tags)) (length (now valid)) (length (now dirty)) (length (now words)) ⌝ }
+    requires { ⌜ Small (g .sets) (g .ways) cells ⌝ }
+    requires { ⌜ 36420 ≤ length (now out) ⌝ }
+{
+    let sets = g.sets;
+    cache::fresh_tables(
+        g,
+        &mut tags[0..cells],
+        &mut valid[0..sets],
+        &mut dirty[0..sets],
+        &mut words[0..sets],
+    );
+    let domains = cache::fresh_domains();
+    let span = Span { from: 0, to: sets };
+    show(g.ways, domains, 0, span, tags, valid, dirty, words, out);
+    domains
+}
+
+// Lends the tables and the output.
+fn lend(g: Geometry, cells: usize, file: &[u8])
+    requires { ⌜ Small (g .sets) (g .ways) cells ⌝ }
+{
+    let mut tags = [0u64; 4096];
+    let mut valid = [0u16; 256];
+    let mut dirty = [0u16; 256];
+    let mut words = [0u64; 256];
+    let mut out = [0u8; 36420];
+    run(
+        g,
+        cells,
+        file,
+        &mut tags,
+        &mut valid,
+        &mut dirty,
+        &mut words,
+        &mut out,
+    );
+}
+
+// Writes the blocks of a file; a geometry beyond the limits has none.
+fn show_file(file: &[u8]) {
+    if tracefile::refusal(file) != 0 {
+        return;
+    }
+    let g = tracefile::geometry(file);
+    let sets = g.sets;
+    let ways = g.ways;
+    if sets == 0 {
+        return;
+    }
+    if 256 < sets {
+        return;
+    }
+    if 16 < ways {
+        return;
+    }
+    lend(g, start_of(sets, ways), file);
+}
+
+fn main() {
+    let mut file = [0u8; 40969];
+    let count = io::read_full(STDIN_FILENO, &mut file);
+    show_file(&file[..count]);
+}
