@@ -1,0 +1,114 @@
+"""From the readable form of a trace to the trace: reads a whole text and tells every error in it."""
+from __future__ import annotations
+
+from frontend.source import Line, Source, Token, close_to, unknown
+from frontend.stepline import is_kind, read_step
+from frontend.tracefile import LARGEST_BYTE, LARGEST_SETS, MAX_STEPS, RULES, Step, Trace
+
+_DIGITS = "0123456789"
+_HEADERS = {"sets": (LARGEST_SETS, "sets 64"), "ways": (LARGEST_BYTE, "ways 8"), "rule": (LARGEST_BYTE, "rule tree")}
+_RULE_NUMBERS = {"tree-plru": 0, **{name: number for number, name in RULES.items()}}
+_RULES_ARE = "Rules are tree (or tree-plru), nru, or a number"
+_LINES_ARE = "A line is 'sets N', 'ways N', 'rule NAME' or a step, 'DOMAIN KIND ARGUMENT'"
+
+
+def assemble(name: str, data: bytes) -> Trace:
+    """Read a trace text; raise SourceErrors with everything that is wrong in it."""
+    return _Assembler(Source(name, data)).run()
+
+
+class _Assembler:
+    """The header and steps read so far."""
+
+    def __init__(self, source: Source) -> None:
+        self.source = source
+        self.header: dict[str, int | None] = {}
+        self.header_lines: dict[str, int] = {}
+        self.misspelt: set[str] = set()
+        self.steps: list[Step | None] = []
+        self.first_step_line = 0
+
+    def run(self) -> Trace:
+        """Read every line and give the trace."""
+        self.source.refuse_binary()
+        for number in range(1, len(self.source.lines) + 1):
+            line = Line(self.source, number)
+            if line.tokens and not self._read(line):
+                break
+        self._check_header()
+        self.source.fail()
+        sets, ways, rule = (self.header[word] for word in _HEADERS)
+        return Trace(sets, ways, rule, tuple(self.steps))
+
+    def _read(self, line: Line) -> bool:
+        """Read a line with something on it; tell whether to go on to the next."""
+        first = line.tokens[0]
+        if first.text in _HEADERS:
+            self._read_header(line)
+        elif _starts_step(line.tokens):
+            return self._read_step(line)
+        else:
+            self._fault_first_word(line, first)
+        return True
+
+    def _read_header(self, line: Line) -> None:
+        """Read `sets`, `ways` or `rule` and its value."""
+        token = line.tokens[0]
+        word, example = token.text, _HEADERS[token.text][1]
+        if word in self.header:
+            line.fault(token, f"'{word}' is given twice, first on line {self.header_lines[word]}; keep one")
+        elif self.first_step_line:
+            where = f"the first step, on line {self.first_step_line}"
+            line.fault(token, f"'{word}' stands after {where}; header lines come before the steps")
+        self.header_lines.setdefault(word, line.number)
+        self.header[word] = _header_value(line, word)
+        line.fault_rest(2, f"a header line has one value, as in '{example}'")
+
+    def _read_step(self, line: Line) -> bool:
+        """Read a step; tell whether there is room for more."""
+        self.first_step_line = self.first_step_line or line.number
+        if len(self.steps) == MAX_STEPS:
+            line.fault(line.tokens[0], f"this is step {MAX_STEPS + 1:,}; a trace has at most {MAX_STEPS:,} steps")
+            return False
+        self.steps.append(read_step(line))
+        return True
+
+    def _fault_first_word(self, line: Line, first: Token) -> None:
+        """Note a line that is neither a header line nor a step."""
+        word = first.text.partition("=")[0]
+        self.misspelt.add(close_to(word, _HEADERS) or "")
+        if is_kind(first.text):
+            line.fault(first, f"the domain is missing; a step starts with it, as in '0 {first.text} ...'")
+        elif word in _HEADERS:
+            line.fault(first, f"a header line has no '='; write it as in '{_HEADERS[word][1]}'")
+        else:
+            line.fault(first, unknown("word", first.text, _HEADERS, _LINES_ARE))
+
+    def _check_header(self) -> None:
+        """Note each header line that is missing, at the first step or at the end."""
+        line = self.first_step_line or len(self.source.lines) + 1
+        for word, (_, example) in _HEADERS.items():
+            if word not in self.header and word not in self.misspelt:
+                message = f"there is no '{word}' line before the steps; write one such as '{example}'"
+                self.source.add(line, 1, 1, message)
+
+
+def _starts_step(tokens: list[Token]) -> bool:
+    """Tell whether a line is meant as a step: its first word is a number, or its second a kind."""
+    return tokens[0].text[0] in _DIGITS or (len(tokens) > 1 and is_kind(tokens[1].text))
+
+
+def _header_value(line: Line, word: str) -> int | None:
+    """Read a header line's value: a number, or a rule's name."""
+    largest, example = _HEADERS[word]
+    if len(line.tokens) < 2:
+        line.fault_at_end(f"'{word}' lacks its value; write it as in '{example}'")
+        return None
+    token = line.tokens[1]
+    if word != "rule":
+        return line.read_number(token, 0, largest, f"the number of {word}")
+    if token.text[0] in _DIGITS:
+        return line.read_number(token, 0, largest, "the number of a rule")
+    if token.text not in _RULE_NUMBERS:
+        line.fault(token, unknown("rule", token.text, _RULE_NUMBERS, _RULES_ARE))
+    return _RULE_NUMBERS.get(token.text)

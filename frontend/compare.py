@@ -1,0 +1,107 @@
+"""The struck-out run beside the whole run: what the chosen domain sees in each, taken from what the programs said."""
+from __future__ import annotations
+
+from collections.abc import Callable
+from dataclasses import dataclass
+
+from frontend import maps, stepper, words
+from frontend.errors import UserError
+from frontend.listing import Answer, Listing
+from frontend.run import Run
+from frontend.tracefile import POLICY, Step
+
+
+@dataclass(frozen=True)
+class Compared:
+    """What is seen in the whole run and in the struck-out run."""
+
+    seen: tuple[str, str]
+
+    @property
+    def same(self) -> bool:
+        """Tell whether both runs agree."""
+        return self.seen[0] == self.seen[1]
+
+
+@dataclass(frozen=True)
+class Pair(Compared):
+    """A step of both runs, and its place in each."""
+
+    step: Step
+    places: tuple[int, int]
+
+
+@dataclass(frozen=True)
+class Ending(Compared):
+    """Something that stands at the end of both runs."""
+
+    name: str
+
+
+@dataclass(frozen=True)
+class Comparison:
+    """All that is compared: the domain's own steps, the other domains' policy changes, and the end."""
+
+    own: list[Pair]
+    others: list[Pair]
+    endings: list[Ending]
+
+    def first_difference(self) -> Compared | None:
+        """Give the step that differs first in the whole run, or else what differs at the end, or None."""
+        pairs = sorted(self.own + self.others, key=lambda pair: pair.places)
+        return next((thing for thing in (*pairs, *self.endings) if not thing.same), None)
+
+
+def compare(whole: Run, struck: Run, domain: int) -> Comparison:
+    """Compare what a domain sees in the whole run and in its struck-out run."""
+    own = _pairs(whole, struck, lambda step: step.domain == domain, str)
+    others = _pairs(whole, struck, lambda step: step.domain != domain and step.kind == POLICY, _verdict)
+    return Comparison(own, others, _endings(whole, struck, domain))
+
+
+def _verdict(answer: Answer) -> str:
+    """Give what is compared of another domain's policy change: that it is accepted, or its refusal."""
+    return "accepted" if answer.word == "policy" else str(answer)
+
+
+def _pairs(whole: Run, struck: Run, chosen: Callable[[Step], bool], view: Callable[[Answer], str]) -> list[Pair]:
+    """Pair the n-th chosen step of one run with the n-th of the other."""
+    places = [[i for i, step in enumerate(run.trace.steps) if chosen(step)] for run in (whole, struck)]
+    steps = [[run.trace.steps[i] for i in found] for run, found in zip((whole, struck), places)]
+    if steps[0] != steps[1]:
+        raise UserError("the purger does not keep the steps that the struck-out list keeps")
+    return [
+        Pair((view(whole.listing.answers[i]), view(struck.listing.answers[j])), step, (i, j))
+        for step, i, j in zip(steps[0], *places)
+    ]
+
+
+def _endings(whole: Run, struck: Run, domain: int) -> list[Ending]:
+    """List what the domain has at the end of both runs."""
+    lines = [_domain_line(run.listing, domain) for run in (whole, struck)]
+    last = whole.blocks[-1], struck.blocks[-1]
+    return [
+        Ending((lines[0], lines[1]), "line of the listing"),
+        Ending((maps.write(last[0].hit[domain]), maps.write(last[1].hit[domain])), "hit map"),
+        Ending((maps.write(last[0].fill[domain]), maps.write(last[1].fill[domain])), "fill map"),
+        _line_ending(whole, struck, last[0].hit[domain]),
+    ]
+
+
+def _domain_line(listing: Listing, domain: int) -> str:
+    """Give the domain's line at the end of a listing."""
+    counts = listing.counts.get(domain)
+    return "none" if counts is None else " ".join(map(str, ("domain", domain, *counts)))
+
+
+def _line_ending(whole: Run, struck: Run, hit: int) -> Ending:
+    """Compare the lines in the ways of a hit map, in every set."""
+    left, right = (stepper.rows_at_end(run.blocks) for run in (whole, struck))
+    valid = 0
+    for number in sorted(left):
+        for way in maps.members(hit):
+            seen = words.line(left[number], way), words.line(right[number], way)
+            if seen[0] != seen[1]:
+                return Ending(seen, f"set {number} way {way}")
+            valid += left[number].valid >> way & 1
+    return Ending((f"{valid} valid", f"{valid} valid"), "lines in its ways")

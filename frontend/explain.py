@@ -1,0 +1,139 @@
+"""A run told step by step: the rows before and after as the stepper gives them, and the lister's answers in words."""
+from __future__ import annotations
+
+import textwrap
+from collections.abc import Iterator
+from dataclasses import dataclass
+
+from frontend import maps, words
+from frontend.listing import Answer
+from frontend.numbers import counted, hexadecimal
+from frontend.paint import Paint
+from frontend.run import Run
+from frontend.stepper import Block, Row
+from frontend.table import columns
+from frontend.tracefile import POLICY, Step
+
+MOST_ROWS = 4
+_WIDTH = 100
+_COLOURS = {"refused": "red", "hit": "green"}
+_ONES = {0: ("right at node", "right at nodes"), 1: ("one at way", "one at ways")}
+_BY_STATE = (6, 7, 8, 9)  # the refusals that depend on what the domains have
+
+
+@dataclass(frozen=True)
+class _Change:
+    """A row before and after a step, and the maps before and after it."""
+
+    number: int
+    rows: tuple[Row, Row]
+    blocks: tuple[Block, Block]
+
+
+class Explainer:
+    """Tells a trace step by step."""
+
+    def __init__(self, run: Run, paint: Paint, show_all: bool) -> None:
+        self._trace, self._listing, self._blocks = run.trace, run.listing, run.blocks
+        self._paint = paint
+        self._most = run.trace.sets if show_all else MOST_ROWS
+        self._rows = dict(run.blocks[0].rows)
+
+    def lines(self) -> Iterator[str]:
+        """Give the whole story, line by line."""
+        yield f"{words.geometry(self._trace)}, {counted(len(self._trace.steps), 'step')}"
+        for place, step in enumerate(self._trace.steps):
+            yield ""
+            yield from self._step(place, step)
+        yield ""
+        yield "At the end"
+        for domain, counts in self._listing.counts.items():
+            yield f"  domain {domain}: {words.counts(counts)}"
+        if not self._listing.counts:
+            yield "  no domain has ways"
+
+    def _step(self, place: int, step: Step) -> Iterator[str]:
+        """Tell one step."""
+        answer = self._listing.answers[place]
+        before, after = self._blocks[place], self._blocks[place + 1]
+        yield self._paint("bold", f"step {place}  {words.step(step)}")
+        yield from self._answer(answer)
+        if answer.word == "policy" or answer.word == "refused" and answer.fields[0] in _BY_STATE:
+            yield from _maps(before, after)
+        if answer.word == "refused" and not after.rows:
+            return
+        numbers = sorted(after.rows) if step.kind == POLICY else sorted({after.set, *after.rows})
+        yield from self._changes(numbers, before, after)
+        self._rows.update(after.rows)
+
+    def _answer(self, answer: Answer) -> Iterator[str]:
+        """Tell the answer, as listed and in words."""
+        yield "  " + self._paint(_COLOURS.get(answer.word, "yellow"), str(answer))
+        yield from textwrap.wrap(words.answer(answer), _WIDTH, initial_indent="  ", subsequent_indent="  ")
+
+    def _changes(self, numbers: list[int], before: Block, after: Block) -> Iterator[str]:
+        """Tell the rows of some sets before and after a step, but no more than are wanted."""
+        if not numbers:
+            yield "  no row changed"
+        for number in numbers[: self._most]:
+            rows = self._rows[number], after.rows.get(number, self._rows[number])
+            yield from self._row(_Change(number, rows, (before, after)))
+        hidden = len(numbers) - self._most
+        if hidden > 0:
+            yield f"  {counted(hidden, 'more set')} changed; --all shows them"
+
+    def _row(self, change: _Change) -> Iterator[str]:
+        """Tell one row before and after a step, way by way."""
+        table = [(" ", f"set {change.number}", "before", "after", "hit map", "fill map")]
+        table += [self._way(change, way) for way in range(self._trace.ways)]
+        texts = [self._word(row) for row in change.rows]
+        table.append((_mark(*texts), "word", *texts, "", ""))
+        head, *body = columns(table)
+        yield "  " + self._paint("dim", head)
+        for line in body:
+            yield "  " + (self._paint("yellow", line) if line.startswith("*") else line)
+
+    def _way(self, change: _Change, way: int) -> tuple[str, ...]:
+        """Tell one way of a row before and after a step, and who has it."""
+        lines = [words.line(row, way) for row in change.rows]
+        hit = _turned(*(_holders(block.hit, way) for block in change.blocks))
+        fill = _turned(*(_holders(block.fill, way) for block in change.blocks))
+        return (_mark(*lines), f"way {way}", *lines, hit, fill)
+
+    def _word(self, row: Row) -> str:
+        """Write a replacement word and where its bits are one."""
+        text = hexadecimal(row.word)
+        if not row.word or self._trace.rule not in _ONES:
+            return text
+        one, more = _ONES[self._trace.rule]
+        where = one if len(maps.members(row.word)) == 1 else more
+        return f"{text} ({where} {maps.write(row.word)})"
+
+
+def _maps(before: Block, after: Block) -> Iterator[str]:
+    """Tell the maps of each domain that has any, before and after a step."""
+    told = False
+    for domain, then, now in zip(range(len(after.hit)), zip(before.hit, before.fill), zip(after.hit, after.fill)):
+        if any(then) or any(now):
+            hit = _turned(maps.write(then[0]), maps.write(now[0]))
+            fill = _turned(maps.write(then[1]), maps.write(now[1]))
+            told = True
+            yield f"  domain {domain} has hit map {hit} and fill map {fill}"
+    if not told:
+        yield "  no domain has ways"
+
+
+def _holders(domain_maps: tuple[int, ...], way: int) -> str:
+    """Name the domains whose map holds a way."""
+    holders = [str(domain) for domain, word in enumerate(domain_maps) if word >> way & 1]
+    return "domain " + ",".join(holders) if holders else "-"
+
+
+def _turned(before: str, after: str) -> str:
+    """Write what something was and is, or once if it stayed."""
+    return after if before == after else f"{before} -> {after}"
+
+
+def _mark(before: str, after: str) -> str:
+    """Mark what changed."""
+    return "" if before == after else "*"

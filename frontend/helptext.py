@@ -1,0 +1,78 @@
+"""What `--help` says of the tool and of each command."""
+
+ABOUT = """\
+A cache whose ways are divided among domains: run traces on the proved model.
+
+Every answer comes from the proved programs in target/bin, which are built with
+'rt check' where they are missing. This front end only formats what they say.
+"""
+
+STATUS = "exit status: 0 done; 1 isolate found a difference; 2 bad input, told on standard error"
+
+LIST = """\
+Print the listing of a trace, byte for byte what target/bin/lister writes: sets,
+ways, rule and number of steps; an answer for each step; and the counts of each
+domain that has ways. A file that is refused as a whole has a listing too,
+'refused' and the number; the reason is then told on standard error.
+
+FILE is a trace file, or a trace text if its name ends in .txt; without FILE, or
+with -, a trace file is read from standard input.
+"""
+
+ASSEMBLE = """\
+Turn a trace text into a trace file. A text has three header lines, then one step
+a line:
+
+  sets 1                        a number that two bytes hold
+  ways 4                        a number that one byte holds
+  rule tree                     tree (or tree-plru), nru, or a number
+  0 load 0x40                   domain, kind (fetch, load, store, flush), address
+  1 policy hit=0-3 fill=0,1     maps are lists of ways; none is the empty map
+  1 policy hit=0x3 fill=0x3     a number with 0x or 0b is a mask: bit w is way w
+  0 policy arg=0x1_0000_0003    the whole argument of a policy, as a number
+  7 kind=9 0x123                any kind by its number, and its argument
+
+Numbers are decimal, 0x or 0b, and '_' may stand between digits. '#' starts a
+comment. Whatever a trace file can say is assembled, also where the cache will
+refuse it. Every error is told with its line and column; then nothing is written.
+"""
+
+SHOW = """\
+Turn a trace file into a trace text. Assembling that text gives the same file,
+byte for byte. A file that is refused by 10 cannot be shown; the reason is told.
+"""
+
+ISOLATE = """\
+Run a trace, and the trace with the accesses and flushes of all other domains
+struck out (by target/bin/purger), and show side by side what DOMAIN sees: the
+answers to its steps; at the end its line of the listing, its maps and the lines
+in its ways; and whether the policy changes of other domains are accepted. That
+these are equal for every trace is the theorem in docs/CLAIMS.md. It covers the
+domain's own replacement bits too, which are not compared here.
+
+FILE is as for list. Exit status: 0 no difference, 1 a difference, 2 bad input.
+"""
+
+EXPLAIN = """\
+Tell a trace step by step: the step; the answer, as listed and in words; for a
+refused step why, and the fix; and the ways of its set before and after, as
+target/bin/stepper gives them: tag, dirty, invalid, the domains whose hit map and
+fill map hold the way, and the replacement word. What changed is marked '*'. A
+policy step shows the sets that it changed.
+
+FILE is as for list. There is colour on a terminal only, unless NO_COLOR is set.
+"""
+
+EXAMPLES = {
+    "list": ("./dipperlock list examples/case-a.txt",),
+    "assemble": ("./dipperlock assemble examples/case-a.txt -o case-a.trace", "./dipperlock list case-a.trace"),
+    "show": ("./dipperlock assemble examples/case-a.txt -o case-a.trace", "./dipperlock show case-a.trace"),
+    "isolate": ("./dipperlock isolate examples/case-a.txt 0",),
+    "explain": ("./dipperlock explain examples/case-a.txt",),
+}
+
+
+def examples(*names: str) -> str:
+    """Lay out the examples of some commands, each line once."""
+    lines = dict.fromkeys(line for name in names for line in EXAMPLES[name])
+    return "\n  ".join(("example, from the root of the repository:", *lines))

@@ -1,0 +1,77 @@
+"""The stepper's stream, taken apart: the maps, and the rows that each step changed.
+
+A block has the row of an access's or a flush's set, and all rows for a policy change; the rows that are as they were are
+left out here."""
+from __future__ import annotations
+
+import struct
+from dataclasses import dataclass, replace
+
+from frontend.errors import UserError
+from frontend.tracefile import Trace
+
+DOMAINS = 16
+_MAPS = struct.Struct(f"<{2 * DOMAINS}H")
+_PLACE = struct.Struct("<HH")
+
+
+@dataclass(frozen=True)
+class Row:
+    """One set: its valid and dirty maps, its replacement word and its tags."""
+
+    valid: int
+    dirty: int
+    word: int
+    tags: tuple[int, ...]
+
+
+@dataclass(frozen=True)
+class Block:
+    """What stands after a step: each domain's maps, the set of the step's argument, and the rows that changed."""
+
+    hit: tuple[int, ...]
+    fill: tuple[int, ...]
+    set: int
+    rows: dict[int, Row]
+
+
+def parse(data: bytes, trace: Trace) -> list[Block]:
+    """Take a stream apart into the fresh block and one for each step; raise UserError if it does not fit the trace."""
+    blocks, offset, current = [], 0, {}
+    try:
+        for _ in range(len(trace.steps) + 1):
+            block, offset = _block(data, offset, trace.ways)
+            changed = {number: row for number, row in block.rows.items() if current.get(number) != row}
+            current.update(changed)
+            blocks.append(replace(block, rows=changed))
+    except struct.error as error:
+        raise UserError(f"the stepper's stream ends within block {len(blocks)}") from error
+    if offset != len(data):
+        raise UserError(f"the stepper's stream goes on after the {len(blocks)} blocks of the trace")
+    named = {number for block in blocks for number in (block.set, *block.rows)}
+    if list(blocks[0].rows) != list(range(trace.sets)) or max(named) >= trace.sets:
+        raise UserError(f"the rows in the stepper's stream are not those of {trace.sets} sets")
+    return blocks
+
+
+def rows_at_end(blocks: list[Block]) -> dict[int, Row]:
+    """Give every row as the last step left it."""
+    rows: dict[int, Row] = {}
+    for block in blocks:
+        rows.update(block.rows)
+    return rows
+
+
+def _block(data: bytes, offset: int, ways: int) -> tuple[Block, int]:
+    """Take one block off a stream; give it and the offset of the next."""
+    maps = _MAPS.unpack_from(data, offset)
+    offset += _MAPS.size
+    place, count = _PLACE.unpack_from(data, offset)
+    offset += _PLACE.size
+    form = struct.Struct(f"<HHHQ{ways}Q")
+    rows = {}
+    for _ in range(count):
+        number, valid, dirty, word, *tags = form.unpack_from(data, offset)
+        rows[number] = Row(valid, dirty, word, tuple(tags))
+        offset += form.size
+    return Block(maps[::2], maps[1::2], place, rows), offset

@@ -1,0 +1,45 @@
+"""Document 01's case A, written by hand: the text's bytes, the listing and the stepper's stream."""
+from __future__ import annotations
+
+import struct
+
+from frontend.stepper import Row
+from frontend.tests.helpers import block
+
+_CODES = bytes((0, 16, 1, 16, 0, 2, 0, 1, 1, 1, 0, 1, 0, 3, 2, 1, 0, 1))
+_ARGUMENTS = (0x0003_0003, 0x000C_000C, 0, 64, 0, 128, 64, 0, 128)
+FILE = struct.pack("<HBBI", 1, 4, 0, 9) + _CODES + struct.pack("<9Q", *_ARGUMENTS)
+
+LISTING = b"""\
+1 4 0 9
+0 policy 0 0
+1 policy 0 0
+2 fill 0
+3 fill 1
+4 fill 2
+5 evict 0 0 1
+6 flush 1 0
+7 refused 6
+8 hit 0
+domain 0 1 3 1 1 1
+domain 1 0 1 0 0 0
+"""
+
+_FIRST = {0: (3, 3)}
+_BOTH = {0: (3, 3), 1: (12, 12)}
+_FRESH = {0: Row(0, 0, 0, (0, 0, 0, 0))}
+_LAST = {0: Row(0b0101, 0, 0b110, (2, 1, 0, 0))}
+STREAM = b"".join(
+    (
+        block({}, 0, _FRESH),
+        block(_FIRST, 0, _FRESH),
+        block(_BOTH, 0, _FRESH),
+        block(_BOTH, 0, {0: Row(0b0001, 1, 0b010, (0, 0, 0, 0))}),
+        block(_BOTH, 0, {0: Row(0b0011, 1, 0b000, (0, 1, 0, 0))}),
+        block(_BOTH, 0, {0: Row(0b0111, 1, 0b100, (0, 1, 0, 0))}),
+        block(_BOTH, 0, {0: Row(0b0111, 0, 0b110, (2, 1, 0, 0))}),
+        block(_BOTH, 0, _LAST),
+        block(_BOTH, 0, _LAST),
+        block(_BOTH, 0, _LAST),
+    )
+)

@@ -1,0 +1,247 @@
+"""The command line: statuses, files, help, and errors without a traceback."""
+import os
+import random
+import shlex
+import signal
+import subprocess
+import tempfile
+import unittest
+from pathlib import Path
+from unittest import mock
+
+from frontend import helptext, programs, tracefile
+from frontend.tests import case_a
+from frontend.tests.helpers import call, random_trace, start
+from frontend.tracefile import Step, Trace
+
+COMMANDS = tuple(helptext.EXAMPLES)
+CASE_A = str(programs.ROOT / "examples" / "case-a.txt")
+
+
+class InFolder(unittest.TestCase):
+    """A test with a folder for its files."""
+
+    def setUp(self) -> None:
+        folder = tempfile.TemporaryDirectory()
+        self.addCleanup(folder.cleanup)
+        self.folder = Path(folder.name)
+
+    def file(self, name: str, data: bytes) -> str:
+        path = self.folder / name
+        path.write_bytes(data)
+        return str(path)
+
+    def assert_bad(self, arguments: tuple[str, ...], *parts: str, stdin: bytes = b"") -> None:
+        status, out, err = call(*arguments, stdin=stdin)
+        self.assertEqual((status, out), (2, b""), err)
+        self.assertNotIn("Traceback", err)
+        for part in parts:
+            self.assertIn(part, err)
+
+
+class Help(InFolder):
+    """Help for the tool and each command, with examples that work."""
+
+    def test_help(self):
+        for command in COMMANDS:
+            status, out, err = call(command, "--help")
+            self.assertEqual((status, err), (0, ""))
+            self.assertIn(helptext.examples(command), out.decode())
+        status, out, _ = call("--help")
+        self.assertEqual(status, 0)
+        for command in COMMANDS:
+            self.assertIn(f"\n    {command} ", out.decode())
+            for line in helptext.EXAMPLES[command]:
+                self.assertIn(f"\n  {line}\n", out.decode())
+
+    def test_examples_that_need_no_program(self):
+        os.symlink(programs.ROOT / "examples", self.folder / "examples")
+        for line in helptext.EXAMPLES["show"]:
+            tool, *arguments = shlex.split(line)
+            self.assertEqual(tool, "./dipperlock")
+            job = start(*arguments, cwd=self.folder)
+            out, err = job.communicate()
+            self.assertEqual(job.returncode, 0, err)
+        self.assertEqual((self.folder / "case-a.trace").read_bytes(), case_a.FILE)
+        self.assertTrue(out.startswith(b"sets 1\nways 4\nrule tree\n"))
+
+    def test_the_text_form_in_help_is_right(self):
+        lines = [line for line in helptext.ASSEMBLE.splitlines() if line.startswith("  ")]
+        text = "\n".join(line[:30] for line in lines).encode()
+        self.assertEqual(call("assemble", "-", "-o", "-", stdin=text)[0], 0)
+        self.assertEqual(len(lines), 8)
+
+    def test_no_command(self):
+        self.assert_bad((), "usage: dipperlock", "./dipperlock list examples/case-a.txt")
+
+    def test_unknown_command(self):
+        self.assert_bad(("lst",), "invalid choice: 'lst'", "list")
+
+
+class Files(InFolder):
+    """Files that cannot be read or written."""
+
+    def test_unreadable(self):
+        missing, folder = str(self.folder / "no.trace"), str(self.folder)
+        for command, *rest in (("list",), ("explain",), ("isolate", "0"), ("show",), ("assemble", "-o", "x")):
+            self.assert_bad((command, missing, *rest), f"dipperlock: cannot read {missing}: No such file or directory")
+            self.assert_bad((command, folder, *rest), f"dipperlock: cannot read {folder}: Is a directory")
+
+    @unittest.skipIf(hasattr(os, "geteuid") and os.geteuid() == 0, "root may read every file")
+    def test_forbidden(self):
+        path = self.file("x.trace", b"")
+        os.chmod(path, 0)
+        self.assert_bad(("list", path), f"cannot read {path}: Permission denied")
+
+    def test_names_that_are_no_names(self):
+        self.assert_bad(("show", ""), "cannot read : No such file")
+        self.assert_bad(("show", "x" * 5000), "File name too long")
+
+    def test_unwritable(self):
+        target = str(self.folder / "no" / "x.trace")
+        self.assert_bad(("assemble", CASE_A, "-o", target), f"dipperlock: cannot write {target}: No such file")
+
+    def test_input_is_not_overwritten(self):
+        path = self.file("x.txt", b"sets 1\nways 4\nrule nru\n")
+        self.assert_bad(("assemble", path, "-o", path), "is the input itself and would be lost; give -o another name")
+        path = self.file("x.trace", case_a.FILE)
+        self.assert_bad(("show", path, "-o", path), "is the input itself")
+        self.assertEqual(Path(path).read_bytes(), case_a.FILE)
+
+
+class AssembleAndShow(InFolder):
+    """The two forms, through the commands."""
+
+    def test_there_and_back(self):
+        for number in range(5):
+            data = tracefile.encode(random_trace(random.Random(number), 50 * number))
+            path, text, back = self.file("a", data), str(self.folder / "a.txt"), str(self.folder / "b")
+            self.assertEqual(call("show", path, "-o", text), (0, b"", ""))
+            status, out, err = call("assemble", text, "-o", back)
+            self.assertEqual((status, out), (0, b""))
+            self.assertIn(f"{back}: ", err)
+            self.assertEqual(Path(back).read_bytes(), data)
+
+    def test_standard_streams(self):
+        status, text, _ = call("show", "-", stdin=case_a.FILE)
+        self.assertEqual(status, 0)
+        self.assertEqual(call("assemble", "-", "-o", "-", stdin=text), (0, case_a.FILE, ""))
+
+    def test_errors_of_a_text(self):
+        path, target = self.file("case.txt", b"sets 1\nways 4\nrule tree\n0 lod 0x40\n"), str(self.folder / "out")
+        for arguments in (("assemble", path, "-o", target), ("list", path), ("explain", path), ("isolate", path, "0")):
+            self.assert_bad(arguments, f"{path}:4:3: unknown kind 'lod'; did you mean 'load'?", "\n      ^^^\n")
+        self.assertFalse(Path(target).exists())
+        self.assert_bad(("assemble", "-", "-o", target), "standard input:1:1: there is no 'sets' line")
+
+    def test_output_is_required(self):
+        self.assert_bad(("assemble", CASE_A), "the following arguments are required: -o")
+
+    def test_show_says_why_not(self):
+        long = tracefile.encode(Trace(1, 2, 0, (Step(0, 0, 0),) * 4097))
+        for data, reason in (
+            (b"abc", "it has 3 bytes, and the header alone has 8. It looks like a trace text"),
+            (case_a.FILE[:-2], "its header says 9 steps, so its length is to be 8 + 10 x 9 = 98 bytes; it has 96.\n"),
+            (long, "it has 4,097 steps, and the most is 4,096.\n"),
+        ):
+            self.assert_bad(("show", "-"), f"dipperlock: standard input is refused by 10: {reason}", stdin=data)
+
+
+class Programs(InFolder):
+    """Commands that ask the proved programs, which answer by rote here."""
+
+    def test_list_passes_bytes_through(self):
+        path = self.file("a.trace", case_a.FILE)
+        with mock.patch.object(programs, "lister", {case_a.FILE: case_a.LISTING}.__getitem__):
+            for arguments in (("list", path), ("list", CASE_A), ("list",), ("list", "-")):
+                self.assertEqual(call(*arguments, stdin=case_a.FILE), (0, case_a.LISTING, ""))
+
+    def test_list_notes_why_a_file_is_refused(self):
+        with mock.patch.object(programs, "lister", lambda data: b"refused 10\n"):
+            status, out, err = call("list", stdin=b"\0")
+        self.assertEqual((status, out), (0, b"refused 10\n"))
+        self.assertIn("dipperlock: note: standard input is refused by 10: it has 1 byte,", err)
+        with mock.patch.object(programs, "lister", lambda data: b"refused 1\n"):
+            status, out, err = call("list", stdin=tracefile.encode(Trace(3, 4, 0, ())))
+        self.assertEqual((status, out), (0, b"refused 1\n"))
+        self.assertIn("refused by 1: 3 sets, 4 ways, rule 0 (Tree-PLRU). The geometry is outside the limits.", err)
+
+    def test_refused_files(self):
+        data = tracefile.encode(Trace(3, 4, 9, ()))
+        with mock.patch.object(programs, "lister", lambda data: b"refused 1\n"):
+            for arguments in (("explain", "-"), ("isolate", "-", "0")):
+                self.assert_bad(arguments, "standard input is refused by 1: 3 sets, 4 ways, rule 9. ", stdin=data)
+        for arguments in (("explain", "-"), ("isolate", "-", "0")):
+            self.assert_bad(arguments, "standard input is refused by 10: it has 2 bytes", stdin=b"ab")
+
+    def test_domain(self):
+        for word in ("x", "16", "-1", "", "0x1", "1.5", "007", "\u0663", "99999999999999999999"):
+            self.assert_bad(("isolate", CASE_A, word), "is not a domain; domains are the decimal numbers 0 to 15")
+        self.assert_bad(("isolate", CASE_A), "the following arguments are required: DOMAIN")
+
+
+class Garbage(InFolder):
+    """Bytes without sense never give a traceback."""
+
+    PIECES = b"", b"=", b"0x", b",", b"-", b"\n", b" ", b"#", b"\xff", b"\xc3\xa9", b"policy ", b"kind=", b"9" * 30
+
+    def test_binary(self):
+        source = random.Random(5)
+        for size in (*range(20), 98, 1000):
+            path = self.file("garbage", source.randbytes(size))
+            for arguments in (("show", path), ("explain", path), ("isolate", path, "3"), ("assemble", path, "-o", "-")):
+                self.assert_bad(arguments)
+
+    def test_text(self):
+        source = random.Random(6)
+        good = Path(CASE_A).read_bytes()
+        for _ in range(300):
+            data = bytearray(good)
+            for _ in range(source.randint(1, 6)):
+                place = source.randrange(len(data))
+                data[place : place + source.randint(0, 3)] = source.choice(self.PIECES)
+            status, out, err = call("assemble", "-", "-o", "-", stdin=bytes(data))
+            self.assertIn(status, (0, 2))
+            self.assertEqual(bool(out), status == 0)
+            self.assertEqual(bool(err), status == 2)
+
+
+class Endings(InFolder):
+    """How the executable ends when its output or the person goes away."""
+
+    def setUp(self) -> None:
+        super().setUp()
+        self.big = self.file("big.trace", tracefile.encode(Trace(1, 2, 0, (Step(0, 0, 0),) * 4096)))
+
+    def test_broken_pipe(self):
+        for arguments in (("show", self.big), ("--help",)):
+            read, write = os.pipe()
+            os.close(read)
+            with os.fdopen(write, "wb") as out:
+                job = start(*arguments, stdout=out)
+            _, err = job.communicate()
+            self.assertEqual((job.returncode, err), (141, b""))
+
+    @unittest.skipUnless(os.path.exists("/dev/full"), "there is no /dev/full")
+    def test_full_disk(self):
+        message = b"dipperlock: cannot write standard output: No space left on device\n"
+        for arguments in (("show", self.big), ("--help",), ("list", "--help")):
+            with open("/dev/full", "wb") as out:
+                job = start(*arguments, stdout=out)
+            _, err = job.communicate()
+            self.assertEqual((job.returncode, err), (2, message))
+
+    def test_interrupt(self):
+        fifo = str(self.folder / "fifo")
+        os.mkfifo(fifo)
+        job = start("show", fifo)
+        with open(fifo, "wb"):  # opens as soon as the front end reads
+            job.send_signal(signal.SIGINT)
+            out, err = job.communicate(timeout=20)
+        self.assertEqual((job.returncode, out, err), (130, b"", b""))
+
+    def test_executable_bit(self):
+        tool = programs.ROOT / "dipperlock"
+        self.assertTrue(os.access(tool, os.X_OK))
+        done = subprocess.run((tool, "show", self.big), capture_output=True, check=False)
+        self.assertEqual((done.returncode, done.stderr), (0, b""))

@@ -1,0 +1,161 @@
+"""Every error of a trace text: its line, its column and its words."""
+import unittest
+
+from frontend.assembler import assemble
+from frontend.source import SourceErrors
+
+HEADER = "sets 1\nways 4\nrule tree\n"
+
+
+def report(data: bytes) -> str:
+    """Assemble a text that has errors and give what is told of them."""
+    try:
+        assemble("case.txt", data)
+    except SourceErrors as errors:
+        return errors.report()
+    raise AssertionError("the text was assembled")
+
+
+class StepErrors(unittest.TestCase):
+    """Errors within one step, on line 4."""
+
+    def check(self, line: str, column: int, message: str) -> None:
+        told = report((HEADER + line + "\n").encode())
+        self.assertIn(f"case.txt:4:{column}: {message}", told)
+        self.assertTrue(told.endswith("\ncase.txt: 1 error; no trace was made"), told)
+
+    def test_domain(self):
+        self.check("256 load 0", 1, "'256' is too large; a domain goes from 0 to 255")
+        self.check("  0x load 0", 3, "'0x' is not a number; a domain is written in decimal")
+        self.check("-1 load 0", 1, "'-1' is not a number")
+        self.check("load 0x40", 1, "the domain is missing; a step starts with it, as in '0 load ...'")
+        self.check("kind=7 0x40", 1, "the domain is missing")
+
+    def test_kind(self):
+        kinds = "Kinds are fetch, load, store, flush, policy, kind=N"
+        self.check("0 lod 0x40", 3, f"unknown kind 'lod'; did you mean 'load'? {kinds}")
+        self.check("0 LOAD 0x40", 3, f"unknown kind 'LOAD'; did you mean 'load'? {kinds}")
+        self.check("0 zzz 0x40", 3, f"unknown kind 'zzz'. {kinds}")
+        self.check("0", 2, f"the step lacks its kind, as in '0 load 0x40'. {kinds}")
+        self.check("0 kind=256 1", 8, "'256' is too large; a kind goes from 0 to 255")
+        self.check("0 kind=x 1", 8, "'x' is not a number; a kind is")
+        self.check("0 kind= 1", 8, "a number is missing; a kind is")
+
+    def test_argument(self):
+        self.check("0 load", 7, "the step lacks its address, as in '0 load 0x40'")
+        self.check("0 load # 0x40", 7, "the step lacks its address")
+        self.check("0 kind=9", 9, "the step lacks its argument, as in '0 kind=9 0x40'")
+        self.check("0 load 0xg", 8, "'0xg' is not a number; an address is written in decimal")
+        self.check("0 store 18446744073709551616", 9, "'18446744073709551616' is too large; an address goes from 0 to")
+        self.check("0 load 64 65", 11, "unexpected '65'; a load step has one address")
+        self.check("0 kind=9 1 2", 12, "unexpected '2'; a kind=9 step has one argument")
+
+    def test_policy_fields(self):
+        takes = "A policy step takes hit=MAP and fill=MAP, or arg=NUMBER"
+        self.check("0 policy hit=0", 15, "the policy lacks fill=MAP; for an empty map write fill=none")
+        self.check("0 policy fill=0", 16, "the policy lacks hit=MAP; for an empty map write hit=none")
+        self.check("0 policy 0x30003", 10, "unexpected '0x30003'; write a whole argument as 'arg=0x30003'")
+        self.check("0 policy hat=0 fill=0", 10, f"unknown field 'hat=0'; did you mean 'hit'? {takes}")
+        self.check("0 policy hit=0 fill=0 hit=1", 23, f"'hit=' is given twice. {takes}")
+        self.check("0 policy hit=0 fill=0 arg=1", 10, f"arg= stands beside hit= or fill=. {takes}")
+        self.check("0 policy hit fill=0", 10, "'hit' lacks its value; write 'hit=' and the value without a space")
+        self.check("0 policy arg=-1", 14, "'-1' is not a number; an argument is")
+        self.check("0 policy arg=0x1_0000_0000_0000_0000", 14, "'0x1_0000_0000_0000_0000' is too large")
+
+    def test_maps(self):
+        form = "a map is a list of ways such as 0,1 or 0-3, a mask such as 0x3, or none"
+        self.check("0 policy hit=0,16 fill=0", 16, "way 16 is above 15, the highest that a map can hold")
+        self.check("0 policy hit=0-99 fill=0", 16, "way 99 is above 15")
+        self.check("0 policy hit=x fill=0", 14, f"'x' is not a way; {form}")
+        self.check("0 policy hit=0 fill=0,1-", 24, "'1-' is not a way")
+        self.check("0 policy hit=0 fill=-1", 21, "'-1' is not a way")
+        self.check("0 policy hit=0,0x1 fill=0", 16, "'0x1' is not a way")
+        self.check("0 policy hit=3-1 fill=0", 14, "range 3-1 runs downwards; write 1-3")
+        self.check("0 policy hit=0-3,2 fill=0", 18, "way 2 is named twice; name each way once")
+        self.check("0 policy hit= fill=0", 14, "a way is missing; for an empty map write none")
+        self.check("0 policy hit=0,,1 fill=0", 15, "a way is missing; write ways with one comma between and no space")
+        self.check("0 policy hit=0x1ffff fill=0", 14, "mask 0x1ffff has a way above 15; the largest mask is 0xffff")
+        self.check("0 policy hit=0xg fill=0", 14, f"'0xg' is not a mask; {form}")
+
+
+class TextErrors(unittest.TestCase):
+    """Errors of the header and of the text as a whole."""
+
+    def check(self, data: str, *places: str) -> None:
+        told = report(data.encode())
+        for place in places:
+            self.assertIn(f"case.txt:{place}", told)
+        count = len(places)
+        self.assertIn(f"\ncase.txt: {count} error{'s' if count > 1 else ''}; no trace was made", told)
+
+    def test_header_values(self):
+        self.check("sets 65536\nways 4\nrule nru", "1:6: '65536' is too large; the number of sets goes from 0 to 65535")
+        self.check("sets 1\nways 256\nrule nru", "2:6: '256' is too large; the number of ways goes from 0 to 255")
+        self.check("sets 1\nways four\nrule nru", "2:6: 'four' is not a number; the number of ways is written")
+        self.check("sets 1\nways 4\nrule 256", "3:6: '256' is too large; the number of a rule goes from 0 to 255")
+        rules = "Rules are tree (or tree-plru), nru, or a number"
+        self.check("sets 1\nways 4\nrule tre", f"3:6: unknown rule 'tre'; did you mean 'tree'? {rules}")
+        self.check("sets 1\nways 4\nrule xyz", f"3:6: unknown rule 'xyz'. {rules}")
+        self.check("sets\nways 4\nrule nru", "1:5: 'sets' lacks its value; write it as in 'sets 64'")
+        self.check("sets 1 2\nways 4\nrule nru", "1:8: unexpected '2'; a header line has one value, as in 'sets 64'")
+
+    def test_header_lines(self):
+        self.check(HEADER + "ways 8", "4:1: 'ways' is given twice, first on line 2; keep one")
+        self.check(
+            "sets 1\nways 4\n\n0 load 0\nrule nru",
+            "5:1: 'rule' stands after the first step, on line 4; header lines come before the steps",
+        )
+        missing = "3:1: there is no 'ways' line before the steps; write one such as 'ways 8'"
+        self.check("sets 1\nrule nru\n0 load 0", missing)
+        self.check("", "1:1: there is no 'sets' line", "1:1: there is no 'ways' line", "1:1: there is no 'rule' line")
+        self.check("# only\n", "2:1: there is no 'sets'", "2:1: there is no 'ways'", "2:1: there is no 'rule'")
+
+    def test_unknown_words(self):
+        lines = "A line is 'sets N', 'ways N', 'rule NAME' or a step, 'DOMAIN KIND ARGUMENT'"
+        self.check("set 1\nways 4\nrule nru", f"1:1: unknown word 'set'; did you mean 'sets'? {lines}")
+        self.check("sets=1\nways 4\nrule nru", "1:1: a header line has no '='; write it as in 'sets 64'")
+        self.check(HEADER + "hello", f"4:1: unknown word 'hello'. {lines}")
+
+    def test_too_many_steps(self):
+        text = HEADER + "0 load 0\n" * 4097 + "0 lod 0\n"
+        self.check(text, "4100:1: this is step 4,097; a trace has at most 4,096 steps")
+        assemble("case.txt", (HEADER + "0 load 0\n" * 4096).encode())
+
+    def test_not_text(self):
+        told = report(HEADER.encode() + b"0 load 0x4\xff0\n")
+        self.assertIn("case.txt:4:11: byte 0xff is not UTF-8 text; save the file as UTF-8", told)
+        told = report(b"sets 1\nw\0ys 4\n\xff")
+        self.assertIn("case.txt:2:2: a zero byte: this is not a trace text; 'dipperlock show FILE' prints", told)
+        self.assertIn("case.txt: 1 error;", told)
+
+
+class Layout(unittest.TestCase):
+    """How errors are laid out."""
+
+    def test_caret_under_the_word(self):
+        told = report((HEADER + "0 lod 0x40\n").encode())
+        self.assertIn("\n    0 lod 0x40\n      ^^^\n", told)
+
+    def test_caret_after_tabs_and_wide_lines(self):
+        told = report((HEADER + "\t0\tlod 0x40\n" + "#" + "x" * 10 + "\n").encode())
+        self.assertIn("\n    \t0\tlod 0x40\n    \t \t^^^\n", told)
+        told = report((HEADER + " " * 300 + "0 lod 0x40\n").encode())
+        source, caret = told.splitlines()[1:3]
+        self.assertEqual(source.index("lod"), caret.index("^"))
+        self.assertLess(len(source), 110)
+
+    def test_control_characters_are_not_printed(self):
+        told = report((HEADER + "0 lo\x1b[31md 0\n").encode())
+        self.assertNotIn("\x1b", told)
+        self.assertIn("case.txt:4:3: unknown kind 'lo\\x1b[31md'", told)
+
+    def test_all_errors_in_order(self):
+        told = report(b"sets x\nways 4\nrule nru\n0 lod 0\n999 load y\n")
+        heads = [line.split(": ")[0] for line in told.splitlines() if line.startswith("case.txt:")]
+        self.assertEqual(heads[:-1], ["case.txt:1:6", "case.txt:4:3", "case.txt:5:1", "case.txt:5:10"])
+        self.assertIn("case.txt: 4 errors; no trace was made", told)
+
+    def test_many_errors_are_counted(self):
+        told = report((HEADER + "0 lod 0\n" * 50).encode())
+        self.assertEqual(told.count("unknown kind"), 20)
+        self.assertTrue(told.endswith("case.txt: 50 errors, the first 20 shown; no trace was made"))

@@ -1,0 +1,143 @@
+"""The story of a run, from a listing and a stream made by hand."""
+import os
+import unittest
+from unittest import mock
+
+from frontend import listing, paint, programs, stepper, tracefile
+from frontend.explain import MOST_ROWS, Explainer
+from frontend.paint import Paint
+from frontend.run import Run
+from frontend.stepper import Row
+from frontend.tests import case_a
+from frontend.tests.helpers import block, call
+from frontend.tracefile import Step, Trace
+
+
+def told(trace: Trace, listed: bytes, stream: bytes, colour: bool = False, show_all: bool = False) -> str:
+    """Tell a run of what programs might have said."""
+    run = Run(trace, listing.parse(listed), stepper.parse(stream, trace))
+    return "\n".join(Explainer(run, Paint(colour), show_all).lines())
+
+
+def told_case_a(colour: bool = False) -> str:
+    """Tell case A."""
+    return told(tracefile.decode(case_a.FILE), case_a.LISTING, case_a.STREAM, colour)
+
+
+class CaseA(unittest.TestCase):
+    """Case A, step by step."""
+
+    def step(self, place: int) -> str:
+        after = told_case_a().partition(f"\nstep {place} ")[2]
+        return after.partition("\n\n")[0]
+
+    def test_head_and_end(self):
+        story = told_case_a()
+        self.assertTrue(story.startswith("1 set, 4 ways, rule 0 (Tree-PLRU), 9 steps\n"))
+        self.assertIn("\n  domain 0: hits 1, misses 3, evicted 1, written back 1, flushed 1\n", story)
+        self.assertNotIn("\x1b", story)
+
+    def test_policy(self):
+        step = self.step(1)
+        self.assertIn("domain 1 asks for hit map 2,3 and fill map 2,3\n  policy 0 0\n  Accepted; no valid", step)
+        self.assertIn("\n  domain 0 has hit map 0,1 and fill map 0,1\n", step)
+        self.assertIn("\n  domain 1 has hit map none -> 2,3 and fill map none -> 2,3\n  no row changed", step)
+
+    def test_evict(self):
+        expected = """\
+ domain 0 loads at 0x80
+  evict 0 0 1
+  A miss: the line with tag 0 was evicted from way 0 (dirty, so it is written back), and the way was
+  filled.
+     set 0  before                 after                     hit map   fill map
+  *  way 0  tag 0, dirty           tag 2                     domain 0  domain 0
+     way 1  tag 1                  tag 1                     domain 0  domain 0
+     way 2  tag 0                  tag 0                     domain 1  domain 1
+     way 3  empty                  empty                     domain 1  domain 1
+  *  word   0x4 (right at node 2)  0x6 (right at nodes 1,2)"""
+        self.assertEqual(self.step(5), expected)
+
+    def test_flush_keeps_the_tag(self):
+        self.assertRegex(self.step(6), r"\n  \*  way 1  tag 1 +tag 1, invalid ")
+
+    def test_refused(self):
+        step = self.step(7)
+        self.assertIn("\n  refused 6\n  The domain's hit map is empty: it has no ways. Give it ways by a policy", step)
+        self.assertNotIn("way 0", step)
+
+    def test_hit_changes_nothing(self):
+        self.assertIn("hit 0\n  A hit in way 0.", self.step(8))
+        self.assertNotIn("*", self.step(8))
+
+
+class Policies(unittest.TestCase):
+    """Policy steps that change many rows, and rows of several domains."""
+
+    SETS = MOST_ROWS + 3
+
+    def story(self, show_all: bool) -> str:
+        sets = 8
+        fresh = block({}, 0, {number: Row(0, 0, 3, (0, 0)) for number in range(sets)})
+        full = {number: Row(1, 1, 2, (number + 1, 0)) for number in range(self.SETS)}
+        empty = {number: Row(0, 0, 3, (0, 0)) for number in range(self.SETS)}
+        trace = Trace(sets, 2, 1, (Step(0, 2, 0), Step(0, 16, 0)))
+        stream = fresh + block({0: (1, 1)}, 0, full) + block({}, 0, empty)
+        return told(trace, b"8 2 1 2\n0 fill 0\n1 policy 7 7\n", stream, show_all=show_all).partition("\nstep 1")[2]
+
+    def test_summary(self):
+        story = self.story(False)
+        self.assertEqual(story.count("before"), MOST_ROWS)
+        self.assertIn(f"\n  {self.SETS - MOST_ROWS} more sets changed; --all shows them", story)
+        self.assertIn("\n  Accepted; dropped 7 valid lines, 7 dirty.\n", story)
+        self.assertRegex(story, r"\n  \*  way 0  tag 1, dirty +empty +domain 0 -> -  domain 0 -> -\n")
+        self.assertRegex(story, r"\n  \*  word   0x2 \(one at way 1\) +0x3 \(one at ways 0,1\)\n")
+        self.assertIn("\n  no domain has ways", story)
+
+    def test_all(self):
+        story = self.story(True)
+        self.assertEqual(story.count("before"), self.SETS)
+        self.assertNotIn("--all", story)
+
+    def test_way_of_two_domains(self):
+        stream = block({}, 0, {0: Row(0, 0, 0, (0, 0))}) + block({3: (1, 0), 12: (1, 1)})
+        story = told(Trace(1, 2, 0, (Step(3, 0, 0),)), b"1 2 0 1\n0 pass\n", stream)
+        self.assertRegex(story, r"way 0  empty +empty +- -> domain 3,12  - -> domain 12\n")
+
+
+class Colour(unittest.TestCase):
+    """Colour on a terminal only."""
+
+    def test_painted(self):
+        self.assertIn("\x1b[31mrefused 6\x1b[0m", told_case_a(colour=True))
+        self.assertIn("\x1b[32mhit 0\x1b[0m", told_case_a(colour=True))
+
+    def test_choice(self):
+        terminal, pipe = mock.Mock(), mock.Mock()
+        terminal.isatty.return_value, pipe.isatty.return_value = True, False
+        for stream, environment, coloured in (
+            (terminal, {}, True),
+            (terminal, {"NO_COLOR": "1"}, False),
+            (terminal, {"NO_COLOR": ""}, True),
+            (terminal, {"TERM": "dumb"}, False),
+            (pipe, {}, False),
+        ):
+            with mock.patch("sys.stdout", stream), mock.patch.dict(os.environ, environment, clear=True):
+                self.assertEqual(paint.for_output()("red", "x") != "x", coloured, environment)
+
+
+class Command(unittest.TestCase):
+    """The command with programs that answer by rote."""
+
+    def test_case_a(self):
+        said = {"lister": lambda data: case_a.LISTING, "stepper": lambda data: case_a.STREAM}
+        with mock.patch.multiple(programs, **said):
+            status, out, err = call("explain", "-", stdin=case_a.FILE)
+        self.assertEqual((status, err), (0, ""))
+        self.assertEqual(out.decode(), told_case_a() + "\n")
+
+    def test_programs_that_disagree(self):
+        said = {"lister": lambda data: case_a.LISTING, "stepper": lambda data: b""}
+        with mock.patch.multiple(programs, **said):
+            status, out, err = call("explain", "-", stdin=case_a.FILE)
+        self.assertEqual((status, out), (2, b""))
+        self.assertEqual(err, "dipperlock: the stepper's stream ends within block 0\n")

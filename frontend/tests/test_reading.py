@@ -1,0 +1,118 @@
+"""What the programs say, taken apart: listings and stepper streams."""
+import unittest
+
+from frontend import listing, stepper, tracefile, words
+from frontend.errors import UserError
+from frontend.listing import Answer
+from frontend.stepper import Row
+from frontend.tests import case_a
+from frontend.tests.helpers import block
+from frontend.tracefile import Step, Trace
+
+
+class Listings(unittest.TestCase):
+    """The lister's text."""
+
+    def test_case_a(self):
+        listed = listing.parse(case_a.LISTING)
+        self.assertIsNone(listed.refused)
+        self.assertEqual(listed.answers[5], Answer("evict", (0, 0, 1)))
+        self.assertEqual(" | ".join(map(str, listed.answers[6:])), "flush 1 0 | refused 6 | hit 0")
+        self.assertEqual(listed.counts, {0: (1, 3, 1, 1, 1), 1: (0, 1, 0, 0, 0)})
+
+    def test_refused_files(self):
+        for number in (1, 10):
+            self.assertEqual(listing.parse(b"refused %d\n" % number).refused, number)
+
+    def test_what_is_no_listing(self):
+        for data in (
+            b"",
+            b"\n",
+            b"refused\n",
+            b"1 4 0 x\n",
+            b"1 4 0 2\n0 hit 0\n",
+            b"1 4 0 1\n1 hit 0\n",
+            b"1 4 0 1\n0 hit\n",
+            b"1 4 0 1\n0 evict 0 0\n",
+            b"1 4 0 1\n0  pass\n",
+            b"1 4 0 0\nrealm 0 1 2 3 4 5\n",
+            b"\xff\xfe",
+        ):
+            with self.assertRaises(UserError, msg=data):
+                listing.parse(data)
+
+
+class Streams(unittest.TestCase):
+    """The stepper's bytes."""
+
+    def test_case_a(self):
+        blocks = stepper.parse(case_a.STREAM, tracefile.decode(case_a.FILE))
+        self.assertEqual(len(blocks), 10)
+        self.assertEqual(blocks[1].hit[:3], (3, 0, 0))
+        self.assertEqual(blocks[2].fill[:3], (3, 12, 0))
+        self.assertEqual(blocks[6].rows, {0: Row(7, 0, 6, (2, 1, 0, 0))})
+        self.assertEqual(stepper.rows_at_end(blocks), {0: Row(5, 0, 6, (2, 1, 0, 0))})
+
+    def test_streams_that_do_not_fit(self):
+        trace = Trace(2, 2, 0, (Step(0, 1, 0),))
+        rows = {0: Row(0, 0, 0, (0, 0)), 1: Row(0, 0, 0, (0, 0))}
+        fresh, after = block({}, 0, rows), block({}, 1, {1: Row(1, 0, 0, (9, (1 << 64) - 1))})
+        self.assertEqual(len(stepper.parse(fresh + after, trace)), 2)
+        for data, reason in (
+            (b"", "ends within block 0"),
+            (fresh, "ends within block 1"),
+            (fresh + after[:-1], "ends within block 1"),
+            (fresh + after + b"\0", "goes on after the 2 blocks"),
+            (after + fresh, "not those of 2 sets"),
+            (fresh + block({}, 2), "not those of 2 sets"),
+            (fresh + block({}, 0, {7: rows[0]}), "not those of 2 sets"),
+        ):
+            with self.assertRaises(UserError) as caught:
+                stepper.parse(data, trace)
+            self.assertIn(reason, str(caught.exception))
+
+
+class Words(unittest.TestCase):
+    """Sentences for steps, answers and refusals."""
+
+    def test_every_refusal_has_a_reason_and_a_fix(self):
+        self.assertEqual(sorted(words.REFUSALS), list(range(1, 11)))
+        for number, refusal in words.REFUSALS.items():
+            self.assertTrue(refusal.why.endswith(".") and refusal.fix.endswith("."), number)
+            self.assertEqual(words.answer(Answer("refused", (number,))), f"{refusal.why} {refusal.fix}")
+
+    def test_numbers_and_words_of_no_document(self):
+        self.assertIn("Number 77", words.answer(Answer("refused", (77,))))
+        self.assertIn("not one of document 01's", words.answer(Answer("select", (1, 2, 3))))
+
+    def test_answers(self):
+        for answer, part in (
+            (Answer("hit", (3,)), "A hit in way 3."),
+            (Answer("fill", (2,)), "way 2, which held no valid line, was filled"),
+            (Answer("evict", (0, 9, 1)), "tag 9 was evicted from way 0 (dirty, so it is written back)"),
+            (Answer("evict", (0, 9, 0)), "(not dirty)"),
+            (Answer("pass", ()), "fill map is empty"),
+            (Answer("flush", (1, 1)), "way 1 was made invalid; it was dirty"),
+            (Answer("absent", ()), "No way of the domain's hit map"),
+            (Answer("policy", (0, 0)), "no valid line was dropped"),
+            (Answer("policy", (2, 1)), "dropped 2 valid lines, 1 dirty"),
+        ):
+            self.assertIn(part, words.answer(answer))
+
+    def test_steps(self):
+        for step, said in (
+            (Step(0, 0, 0), "domain 0 fetches at 0x0"),
+            (Step(1, 1, 64), "domain 1 loads at 0x40"),
+            (Step(2, 2, 1 << 32), "domain 2 stores at 0x1_0000_0000"),
+            (Step(3, 3, 64), "domain 3 flushes 0x40"),
+            (Step(4, 16, 0x1_0003), "domain 4 asks for hit map 0,1 and fill map 0"),
+            (Step(5, 16, 0), "domain 5 asks for two empty maps, to be removed"),
+            (Step(6, 16, 1 << 40), "domain 6 asks for the policy of argument 0x100_0000_0000"),
+            (Step(99, 7, 5), "domain 99 does kind 7 with argument 0x5"),
+        ):
+            self.assertEqual(words.step(step), said)
+
+    def test_lines(self):
+        row = Row(0b0011, 0b0010, 0, (5, 6, 7, 0))
+        said = [words.line(row, way) for way in range(4)]
+        self.assertEqual(said, ["tag 5", "tag 6, dirty", "tag 7, invalid", "empty"])

@@ -1,0 +1,124 @@
+"""The readable form: what it says, and that it goes there and back."""
+import random
+import struct
+import unittest
+
+from frontend import maps, numbers, text, tracefile
+from frontend.assembler import assemble
+from frontend.programs import ROOT
+from frontend.tests import case_a
+from frontend.tests.helpers import random_trace
+from frontend.tracefile import Step, Trace
+
+HEADER = "sets 1\nways 4\nrule tree\n"
+
+
+def steps_of(lines: str) -> tuple[Step, ...]:
+    """Assemble step lines under a header."""
+    return assemble("case.txt", (HEADER + lines).encode()).steps
+
+
+class RoundTrip(unittest.TestCase):
+    """Showing a file and assembling the text gives the file."""
+
+    def there_and_back(self, data: bytes) -> None:
+        shown = text.show(tracefile.decode(data)).encode("ascii")
+        self.assertEqual(tracefile.encode(assemble("shown.txt", shown)), data)
+
+    def test_random_bytes(self):
+        source = random.Random(3)
+        for count in (0, 1, 5, 400):
+            self.there_and_back(source.randbytes(4) + struct.pack("<I", count) + source.randbytes(10 * count))
+
+    def test_random_traces(self):
+        source = random.Random(4)
+        for count in range(0, 200, 3):
+            self.there_and_back(tracefile.encode(random_trace(source, count)))
+
+    def test_every_kind_and_domain(self):
+        for argument in (0, 63, 0xFFFF_FFFF, 0x1_0000_0000, (1 << 64) - 1):
+            steps = tuple(Step(number, 255 - number, argument) for number in range(256))
+            self.there_and_back(tracefile.encode(Trace(0, 255, 7, steps)))
+
+    def test_maps_all_over(self):
+        steps = tuple(Step(1, 16, word | (word * 3 & 0xFFFF) << 16) for word in range(0, 1 << 16, 17))
+        self.there_and_back(tracefile.encode(Trace(1, 16, 1, steps)))
+
+    def test_most_steps(self):
+        self.there_and_back(tracefile.encode(Trace(256, 16, 1, (Step(15, 2, 1 << 63),) * 4096)))
+
+    def test_geometries(self):
+        for sets, ways, rule in ((0, 0, 0), (65535, 255, 255), (3, 5, 2)):
+            self.there_and_back(tracefile.encode(Trace(sets, ways, rule, ())))
+
+
+class Forms(unittest.TestCase):
+    """What lines of a text mean."""
+
+    def test_case_a(self):
+        source = (ROOT / "examples" / "case-a.txt").read_bytes()
+        self.assertEqual(tracefile.encode(assemble("case-a.txt", source)), case_a.FILE)
+
+    def test_canonical_text(self):
+        shown = text.show(tracefile.decode(case_a.FILE))
+        expected = "0 policy hit=0,1 fill=0,1\n1 policy hit=2,3 fill=2,3\n0 store 0x0\n0 load 0x40\n"
+        self.assertTrue(shown.startswith("sets 1\nways 4\nrule tree\n\n" + expected), shown)
+
+    def test_canonical_text_without_steps(self):
+        self.assertEqual(text.show(Trace(2, 8, 9, ())), "sets 2\nways 8\nrule 9\n")
+
+    def test_raw_forms_are_shown_where_needed(self):
+        steps = (Step(7, 9, 0x123), Step(0, 16, 0x1_0000_0003), Step(200, 0, 1 << 63))
+        shown = text.show(Trace(1, 4, 1, steps))
+        expected = "rule nru\n\n7 kind=9 0x123\n0 policy arg=0x1_0000_0003\n200 fetch 0x8000_0000_0000_0000\n"
+        self.assertTrue(shown.endswith(expected), shown)
+
+    def test_kinds(self):
+        lines = "0 fetch 0\n1 load 64\n2 store 0x80\n3 flush 0b11\n4 kind=16 7\n5 kind=0x20 1_000\n"
+        expected = (Step(0, 0, 0), Step(1, 1, 64), Step(2, 2, 128), Step(3, 3, 3), Step(4, 16, 7), Step(5, 32, 1000))
+        self.assertEqual(steps_of(lines), expected)
+
+    def test_policies(self):
+        for written, argument in (
+            ("hit=0,1 fill=0,1", 0x0003_0003),
+            ("hit=0-3 fill=none", 0x0000_000F),
+            ("hit=0x3 fill=0x1", 0x0001_0003),
+            ("hit=3 fill=0b1000", 0x0008_0008),
+            ("hit=0-2,5,7-15 fill=15", 0x8000_FFA7),
+            ("fill=2 hit=2,3", 0x0004_000C),
+            ("arg=0x1_0000_0003", 0x1_0000_0003),
+            ("hit=none fill=none", 0),
+        ):
+            self.assertEqual(steps_of(f"1 policy {written}\n"), (Step(1, 16, argument),), written)
+
+    def test_rules(self):
+        for name, number in (("tree", 0), ("tree-plru", 0), ("nru", 1), ("0", 0), ("0x2", 2), ("255", 255)):
+            trace = assemble("case.txt", f"rule {name}\nways 2\nsets 8\n".encode())
+            self.assertEqual(trace, Trace(8, 2, number, ()))
+
+    def test_comments_blanks_tabs_and_line_ends(self):
+        data = b"\xef\xbb\xbf# caf\xc3\xa9\r\nsets 1\r\n\r\n ways\t4 # four\r\nrule nru#x\r\n\t0\tload\t64"
+        self.assertEqual(assemble("case.txt", data), Trace(1, 4, 1, (Step(0, 1, 64),)))
+
+    def test_every_example_assembles(self):
+        found = sorted((ROOT / "examples").glob("*.txt"))
+        self.assertIn("case-a.txt", [path.name for path in found])
+        for path in found:
+            assemble(path.name, path.read_bytes())
+
+
+class Parts(unittest.TestCase):
+    """Numbers and maps by themselves."""
+
+    def test_numbers(self):
+        for written, value in (("0", 0), ("007", 7), ("1_000", 1000), ("0xFf", 255), ("0b1_0", 2), ("0X1", 1)):
+            self.assertEqual(numbers.parse(written), value, written)
+        for written in ("", "-1", "+1", "1.0", "x", "0x", "0b2", "1_", "_1", "1__0", "\u0663", "1e3"):
+            self.assertIsNone(numbers.parse(written), written)
+        self.assertGreater(numbers.parse("9" * 10_000), 1 << 64)
+        self.assertEqual(numbers.parse("0" * 10_000 + "5"), 5)
+
+    def test_maps(self):
+        for word in (0, 1, 3, 7, 0x8000, 0xFFFF, 0x5555, 0xA0F3):
+            self.assertEqual(maps.parse(maps.write(word)), word)
+        self.assertEqual([maps.write(word) for word in (0, 3, 7, 0b110111)], ["none", "0,1", "0-2", "0-2,4,5"])

@@ -1,0 +1,138 @@
+"""The front end with the proved programs, where they are built."""
+import os
+import random
+import shlex
+import subprocess
+import tempfile
+import unittest
+from pathlib import Path
+
+from frontend import helptext, listing, programs, run, stepper, tracefile
+from frontend.tests import case_a
+from frontend.tests.helpers import call, needs_programs, random_trace, start
+from frontend.tracefile import Step, Trace
+
+EXAMPLES = sorted((programs.ROOT / "examples").glob("*.txt"))
+
+
+def busy_trace(source: random.Random, count: int) -> Trace:
+    """Make a trace within the limits whose steps are mostly accepted."""
+    ways, domains, tops = source.choice((2, 4, 8, 16)), (0, 1, 15), (63, 255, 1023)
+    steps = []
+    for _ in range(count):
+        word = source.getrandbits(ways) & source.getrandbits(ways)
+        argument = word | (word & source.getrandbits(ways)) << 16
+        kind = source.choice((0, 1, 1, 2, 2, 3, 16))
+        address = source.randint(0, source.choice(tops)) * 64
+        steps.append(Step(source.choice(domains), kind, argument if kind == 16 else address))
+    return Trace(source.choice((1, 2, 4, 256)), ways, source.choice((0, 1)), tuple(steps))
+
+
+@needs_programs
+class CaseA(unittest.TestCase):
+    """Document 01's cases that a program shows."""
+
+    def test_listing(self):
+        example = str(programs.ROOT / "examples" / "case-a.txt")
+        for arguments in (("list", example), ("list",)):
+            self.assertEqual(call(*arguments, stdin=case_a.FILE), (0, case_a.LISTING, ""))
+
+    def test_stream(self):
+        self.assertEqual(programs.stepper(case_a.FILE), case_a.STREAM)
+
+    def test_purge(self):
+        kept = tracefile.decode(tracefile.with_steps(case_a.FILE, programs.purger(case_a.FILE, 0))).steps
+        steps = tracefile.decode(case_a.FILE).steps
+        self.assertEqual(kept, tuple(step for place, step in enumerate(steps) if place not in (4, 7)))
+
+    def test_limits(self):
+        many = (Step(0, 0, 0),) * 4096
+        for trace, first in (
+            (Trace(256, 2, 0, ()), b"256 2 0 0\n"),
+            (Trace(257, 2, 0, ()), b"refused 1\n"),
+            (Trace(512, 2, 0, ()), b"refused 1\n"),
+            (Trace(1, 2, 0, (Step(15, 1, 0),)), b"1 2 0 1\n0 refused 6\n"),
+            (Trace(1, 2, 0, (Step(16, 1, 0),)), b"1 2 0 1\n0 refused 3\n"),
+            (Trace(1, 2, 0, many), b"1 2 0 4096\n0 refused 6\n"),
+            (Trace(1, 2, 0, (*many, many[0])), b"refused 10\n"),
+        ):
+            status, out, _ = call("list", stdin=tracefile.encode(trace))
+            self.assertEqual((status, out[: len(first)]), (0, first))
+
+
+@needs_programs
+class Examples(unittest.TestCase):
+    """Everything that is printed as an example."""
+
+    def test_help(self):
+        with tempfile.TemporaryDirectory() as folder:
+            os.symlink(programs.ROOT / "examples", Path(folder) / "examples")
+            for line in dict.fromkeys(line for lines in helptext.EXAMPLES.values() for line in lines):
+                job = start(*shlex.split(line)[1:], cwd=folder)
+                _, err = job.communicate()
+                self.assertEqual(job.returncode, 0, (line, err))
+
+    def test_refusals_are_those_that_the_text_says(self):
+        text = (programs.ROOT / "examples" / "refusals.txt").read_bytes()
+        status, out, _ = call("list", str(programs.ROOT / "examples" / "refusals.txt"))
+        numbers = [answer.fields[0] for answer in listing.parse(out).answers if answer.word == "refused"]
+        self.assertEqual((status, numbers), (0, [3, 4, 5, 5, 5, 6, 8, 9]))
+        for number in numbers:
+            self.assertIn(b"# %d: " % number, text)
+
+    def test_isolate_and_explain(self):
+        for path in EXAMPLES:
+            for domain in range(4):
+                status, out, err = call("isolate", str(path), str(domain))
+                self.assertEqual((status, err), (0, ""), out)
+            self.assertEqual(call("explain", "--all", str(path))[0], 0)
+
+
+@needs_programs
+class Random(unittest.TestCase):
+    """What programs say of one trace fits together."""
+
+    def test_no_difference(self):
+        source = random.Random(7)
+        for _ in range(12):
+            data = tracefile.encode(busy_trace(source, 150))
+            status, out, err = call("isolate", "-", source.choice(("0", "1", "15")), stdin=data)
+            self.assertEqual((status, err), (0, ""), out.decode())
+            self.assertEqual(call("explain", "-", stdin=data)[0], 0)
+
+    def test_maps_at_the_end_are_those_of_the_listing(self):
+        source = random.Random(8)
+        for _ in range(12):
+            taken = run.take("random", tracefile.encode(busy_trace(source, 100)))
+            held = [domain for domain, word in enumerate(taken.blocks[-1].hit) if word]
+            self.assertEqual(list(taken.listing.counts), held)
+
+    def test_refused_steps_change_nothing(self):
+        source = random.Random(9)
+        for _ in range(12):
+            taken = run.take("random", tracefile.encode(busy_trace(source, 100)))
+            for place, answer in enumerate(taken.listing.answers):
+                before, after = taken.blocks[place], taken.blocks[place + 1]
+                if answer.word == "refused":
+                    self.assertEqual((after.hit, after.fill, after.rows), (before.hit, before.fill, {}))
+
+    def test_any_trace_is_listed(self):
+        source = random.Random(10)
+        for _ in range(20):
+            data = tracefile.encode(random_trace(source, 30))
+            listed = listing.parse(programs.lister(data))
+            stream = programs.stepper(data)
+            self.assertIn(listed.refused, (None, 1))
+            self.assertEqual(stream == b"", listed.refused == 1)
+            if stream:
+                stepper.parse(stream, tracefile.decode(data))
+
+    def test_files_refused_by_ten(self):
+        for data in (b"", b"1234567", case_a.FILE[:-1], case_a.FILE + b"\0"):
+            self.assertEqual(programs.lister(data), b"refused 10\n")
+            self.assertEqual((programs.purger(data, 0), programs.stepper(data)), (b"", b""))
+
+    def test_pass_through(self):
+        data = tracefile.encode(busy_trace(random.Random(11), 500))
+        done = subprocess.run((programs.BIN / "lister",), input=data, capture_output=True, check=True)
+        self.assertEqual(call("list", stdin=data), (0, done.stdout, ""))

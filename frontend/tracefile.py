@@ -1,0 +1,86 @@
+"""The trace file, in the binary form that the proved programs read."""
+from __future__ import annotations
+
+import struct
+from dataclasses import dataclass, replace
+
+from frontend.errors import UserError
+from frontend.numbers import counted
+
+MAX_STEPS = 4096
+POLICY = 16
+KINDS = {0: "fetch", 1: "load", 2: "store", 3: "flush", POLICY: "policy"}
+RULES = {0: "tree", 1: "nru"}
+LARGEST_SETS = 0xFFFF
+LARGEST_BYTE = 0xFF
+LARGEST_ARGUMENT = 0xFFFF_FFFF_FFFF_FFFF
+
+_HEADER = struct.Struct("<HBBI")
+_STEP_SIZE = 10
+
+
+@dataclass(frozen=True)
+class Step:
+    """One step: the domain that it names, its kind and its argument."""
+
+    domain: int
+    kind: int
+    argument: int
+
+
+@dataclass(frozen=True)
+class Trace:
+    """A geometry and the steps to be run on it."""
+
+    sets: int
+    ways: int
+    rule: int
+    steps: tuple[Step, ...]
+
+
+class BadTraceFile(UserError):
+    """Bytes that document 01 refuses by 10, with the reason."""
+
+
+def encode(trace: Trace) -> bytes:
+    """Write a trace as a trace file."""
+    count = len(trace.steps)
+    codes = b"".join(bytes((step.domain, step.kind)) for step in trace.steps)
+    arguments = struct.pack(f"<{count}Q", *(step.argument for step in trace.steps))
+    return _HEADER.pack(trace.sets, trace.ways, trace.rule, count) + codes + arguments
+
+
+def decode(data: bytes) -> Trace:
+    """Read a trace file; raise BadTraceFile for one that document 01 refuses by 10."""
+    fault = why_refused(data)
+    if fault:
+        raise BadTraceFile(fault)
+    sets, ways, rule, count = _HEADER.unpack_from(data)
+    codes = data[_HEADER.size : _HEADER.size + 2 * count]
+    arguments = struct.unpack_from(f"<{count}Q", data, _HEADER.size + 2 * count)
+    steps = (Step(domain, kind, argument) for domain, kind, argument in zip(codes[::2], codes[1::2], arguments))
+    return Trace(sets, ways, rule, tuple(steps))
+
+
+def with_steps(data: bytes, lines: bytes) -> bytes:
+    """Give the trace file of the same geometry whose steps are the purger's lines."""
+    try:
+        steps = tuple(Step(*map(int, line.split())) for line in lines.splitlines())
+    except (TypeError, ValueError) as error:
+        raise UserError("the purger's lines are not a domain, a kind and an argument each") from error
+    return encode(replace(decode(data), steps=steps))
+
+
+def why_refused(data: bytes) -> str | None:
+    """Say which of refusal 10's three reasons holds of a file, or None if none does."""
+    size = len(data)
+    if size < _HEADER.size:
+        return f"it has {counted(size, 'byte')}, and the header alone has {_HEADER.size}"
+    count = _HEADER.unpack_from(data)[3]
+    expected = _HEADER.size + _STEP_SIZE * count
+    if size != expected:
+        due = f"its header says {counted(count, 'step')}, so its length is to be 8 + 10 x {count} = {expected} bytes"
+        return f"{due}; it has {size}"
+    if count > MAX_STEPS:
+        return f"it has {counted(count, 'step')}, and the most is {MAX_STEPS:,}"
+    return None

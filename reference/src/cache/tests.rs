@@ -1,0 +1,156 @@
+//! States that no trace file reaches, and points that a reader of document 01 could miss.
+
+use super::*;
+use crate::geometry::Rule;
+
+fn cache(ways: usize, rule: Rule) -> Cache {
+    Cache::fresh(Geometry { sets: 1, ways, rule })
+}
+
+fn policy(hit_map: Map, fill_map: Map) -> Step {
+    Step { domain: 0, kind: 16, argument: u64::from(hit_map) | u64::from(fill_map) << 16 }
+}
+
+fn store(line: u64) -> Step {
+    Step { domain: 0, kind: 2, argument: line * 64 }
+}
+
+fn flush(line: u64) -> Step {
+    Step { domain: 0, kind: 3, argument: line * 64 }
+}
+
+fn of_domain(domain: u8, step: Step) -> Step {
+    Step { domain, ..step }
+}
+
+/// Stored maps 3 and 12 are read as 3 and 0: by the fill maps 0 and 3, only bits 0 and 1 change hands.
+#[test]
+fn the_old_policy_is_the_one_read() {
+    let mut cache = cache(4, Rule::Nru);
+    cache.domains[0].stored = Policy { hit_map: 3, fill_map: 12 };
+    cache.replacement[0] = 0;
+    assert_eq!(cache.step(&policy(3, 3)), Answer::Policy { dropped: 0, dirty_dropped: 0 });
+    assert_eq!(cache.replacement[0], 0b0011);
+}
+
+/// A way of W or more in a stored hit map is not there: refused 6.
+#[test]
+fn a_policy_of_high_ways_alone_is_empty() {
+    let mut cache = cache(2, Rule::TreePlru);
+    cache.domains[0].stored = Policy { hit_map: 12, fill_map: 12 };
+    assert_eq!(cache.step(&store(0)), Answer::Refused(Refusal::NoWays));
+}
+
+#[test]
+fn any_full_count_turns_down_access_and_flush_but_no_policy() {
+    for full in 0..5 {
+        let mut cache = cache(2, Rule::Nru);
+        cache.step(&policy(3, 0));
+        let mut counts = [0; 5];
+        counts[full] = u32::MAX;
+        let [hits, misses, evicted, written_back, flushed] = counts;
+        cache.domains[0].counts = Counts { hits, misses, evicted, written_back, flushed };
+        assert_eq!(cache.step(&store(0)), Answer::Refused(Refusal::CountSpent));
+        assert_eq!(cache.step(&flush(0)), Answer::Refused(Refusal::CountSpent));
+        assert_eq!(cache.counts(0).in_order(), counts);
+        assert_eq!(cache.step(&policy(1, 1)), Answer::Policy { dropped: 0, dirty_dropped: 0 });
+        cache.domains[0].stored = Policy::default();
+        assert_eq!(cache.step(&store(0)), Answer::Refused(Refusal::NoWays));
+    }
+}
+
+#[test]
+fn dropped_lines_are_answered_and_not_counted() {
+    let mut cache = cache(4, Rule::Nru);
+    cache.step(&policy(3, 3));
+    cache.step(&store(5));
+    cache.step(&Step { kind: 1, ..store(6) });
+    assert_eq!(cache.step(&policy(12, 12)), Answer::Policy { dropped: 2, dirty_dropped: 1 });
+    assert_eq!(cache.counts(0).in_order(), [0, 2, 0, 0, 0]);
+    assert_eq!((cache.valid[0], cache.dirty[0], &cache.tags[..]), (0, 0, &[0; 4][..]));
+}
+
+#[test]
+fn only_two_zero_maps_zero_the_counts() {
+    let mut cache = cache(4, Rule::TreePlru);
+    cache.step(&policy(3, 3));
+    cache.step(&store(0));
+    cache.step(&policy(3, 0));
+    assert_eq!(cache.counts(0).in_order(), [0, 1, 0, 0, 0]);
+    assert_eq!(cache.step(&store(1)), Answer::Pass);
+    assert_eq!(cache.step(&policy(0, 0)), Answer::Policy { dropped: 1, dirty_dropped: 1 });
+    assert_eq!(cache.counts(0).in_order(), [0; 5]);
+    assert_eq!(cache.step(&policy(0, 0)), Answer::Policy { dropped: 0, dirty_dropped: 0 });
+    assert_eq!(cache.step(&policy(0, 1)), Answer::Refused(Refusal::Argument));
+}
+
+/// A flush leaves the tag and the replacement bits, and its way is then the lowest invalid one.
+#[test]
+fn a_flush_leaves_tag_and_replacement_bits() {
+    let mut cache = cache(4, Rule::Nru);
+    cache.step(&policy(15, 15));
+    cache.step(&store(8));
+    cache.step(&store(9));
+    let (tags, word) = (cache.tags.clone(), cache.replacement[0]);
+    assert_eq!(cache.step(&flush(8)), Answer::Flush { way: 0, dirty: true });
+    assert_eq!((&cache.tags, cache.replacement[0]), (&tags, word));
+    assert_eq!(cache.step(&flush(8)), Answer::Absent);
+    assert_eq!(cache.step(&store(10)), Answer::Fill { way: 0 });
+}
+
+/// Way 0 is locked: hit, never filled. Its touch moves no NRU bit.
+#[test]
+fn a_locked_way_is_hit_and_not_filled() {
+    let mut cache = cache(2, Rule::Nru);
+    cache.step(&policy(3, 3));
+    cache.step(&store(0));
+    cache.step(&policy(3, 2));
+    assert_eq!(cache.replacement[0], 0b11);
+    assert_eq!(cache.step(&store(1)), Answer::Fill { way: 1 });
+    assert_eq!(cache.step(&store(2)), Answer::Evict { way: 1, tag: 1, dirty: true });
+    assert_eq!(cache.step(&store(0)), Answer::Hit { way: 0 });
+    assert_eq!(cache.replacement[0], 0b01);
+}
+
+/// "A way handed over with its replacement bits as the last owner left them": node 0 points right when domain 0
+/// leaves, and left again for domain 1.
+#[test]
+fn replacement_bits_are_handed_over_clean() {
+    let mut cache = cache(2, Rule::TreePlru);
+    cache.step(&policy(3, 3));
+    cache.step(&store(0));
+    assert_eq!(cache.replacement[0], 1);
+    assert_eq!(cache.step(&of_domain(1, policy(3, 3))), Answer::Refused(Refusal::SharedWay));
+    cache.step(&policy(0, 0));
+    cache.step(&of_domain(1, policy(3, 3)));
+    assert_eq!(cache.replacement[0], 0);
+}
+
+/// With lent policies that overlap, a change that shrinks and still overlaps is 8; a removal is accepted.
+#[test]
+fn overlapping_policies_are_read_as_they_are() {
+    let mut cache = cache(4, Rule::Nru);
+    cache.domains[0].stored = Policy { hit_map: 7, fill_map: 7 };
+    cache.domains[1].stored = Policy { hit_map: 6, fill_map: 6 };
+    assert_eq!(cache.step(&of_domain(1, store(3))), Answer::Fill { way: 1 });
+    assert_eq!(cache.step(&policy(3, 3)), Answer::Refused(Refusal::SharedWay));
+    assert_eq!(cache.step(&policy(0, 0)), Answer::Policy { dropped: 1, dirty_dropped: 1 });
+}
+
+/// The lowest number is given: 3 before 4, 5 before 8, 8 before 9.
+#[test]
+fn the_lowest_number_is_given() {
+    let mut cache = cache(8, Rule::TreePlru);
+    cache.step(&of_domain(1, policy(15, 15)));
+    let refused = |cache: &mut Cache, step: Step| match cache.step(&step) {
+        Answer::Refused(refusal) => refusal.number(),
+        answer => panic!("{answer:?}"),
+    };
+    assert_eq!(refused(&mut cache, Step { domain: 16, kind: 4, argument: 0 }), 3);
+    assert_eq!(refused(&mut cache, Step { domain: 15, kind: 15, argument: 0 }), 4);
+    assert_eq!(refused(&mut cache, policy(1, 3)), 5);
+    assert_eq!(refused(&mut cache, policy(0x101, 0)), 5);
+    assert_eq!(refused(&mut cache, Step { domain: 0, kind: 16, argument: 1 << 32 }), 5);
+    assert_eq!(refused(&mut cache, policy(15, 15)), 8);
+    assert_eq!(refused(&mut cache, of_domain(2, flush(0))), 6);
+}

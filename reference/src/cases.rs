@@ -1,0 +1,169 @@
+//! Cases A to L of document 01.
+
+use crate::geometry::{Geometry, Map};
+use crate::{listing, nru, tree};
+
+/// (domain, kind, argument)
+type Code = (u8, u8, u64);
+
+const LOAD: u8 = 1;
+const STORE: u8 = 2;
+const FLUSH: u8 = 3;
+const POLICY: u8 = 16;
+
+/// A policy change of a domain to equal hit and fill maps.
+fn policy(domain: u8, map: Map) -> Code {
+    (domain, POLICY, u64::from(map) | u64::from(map) << 16)
+}
+
+fn file(sets: u16, ways: u8, rule: u8, steps: &[Code]) -> Vec<u8> {
+    let mut file = Vec::new();
+    file.extend(sets.to_le_bytes());
+    file.extend([ways, rule]);
+    file.extend((steps.len() as u32).to_le_bytes());
+    for &(domain, kind, _) in steps {
+        file.extend([domain, kind]);
+    }
+    for &(_, _, argument) in steps {
+        file.extend(argument.to_le_bytes());
+    }
+    file
+}
+
+fn list(sets: u16, ways: u8, rule: u8, steps: &[Code]) -> String {
+    listing::of_file(&file(sets, ways, rule, steps))
+}
+
+const CASE_A: &str = "\
+1 4 0 9
+0 policy 0 0
+1 policy 0 0
+2 fill 0
+3 fill 1
+4 fill 2
+5 evict 0 0 1
+6 flush 1 0
+7 refused 6
+8 hit 0
+domain 0 1 3 1 1 1
+domain 1 0 1 0 0 0
+";
+
+#[test]
+fn case_a_the_listing() {
+    let steps = [
+        policy(0, 3),
+        policy(1, 12),
+        (0, STORE, 0),
+        (0, LOAD, 64),
+        (1, LOAD, 0),
+        (0, LOAD, 128),
+        (0, FLUSH, 64),
+        (2, LOAD, 0),
+        (0, LOAD, 128),
+    ];
+    assert_eq!(list(1, 4, 0, &steps), CASE_A);
+}
+
+#[test]
+fn case_b_touching_way_5_under_map_255() {
+    for word in 0..1 << 7 {
+        let touched = tree::touch(8, word, 255, 5);
+        let others_stay = word & !0b010_0101;
+        assert_eq!(touched, others_stay | 1 << 2);
+    }
+}
+
+#[test]
+fn case_c_map_12_has_one_free_node() {
+    assert_eq!(tree::free_nodes(8, 12), 1 << 4);
+}
+
+#[test]
+fn case_d_its_victim_with_a_zero_word() {
+    assert_eq!(tree::victim(8, 0, 12), 2);
+}
+
+#[test]
+fn case_e_its_victim_with_node_4_set() {
+    assert_eq!(tree::victim(8, 1 << 4, 12), 3);
+}
+
+#[test]
+fn case_f_maps_5_and_10_share_node_1() {
+    assert_eq!(tree::free_nodes(8, 5) & tree::free_nodes(8, 10), 1 << 1);
+    let listing = list(1, 8, 0, &[policy(0, 5), policy(1, 10)]);
+    assert_eq!(listing, "1 8 0 2\n0 policy 0 0\n1 refused 9\ndomain 0 0 0 0 0 0\n");
+    let under_nru = list(1, 8, 1, &[policy(0, 5), policy(1, 10)]);
+    assert!(under_nru.contains("\n1 policy 0 0\n"));
+}
+
+#[test]
+fn case_g_maps_3_and_12_are_accepted() {
+    let listing = list(1, 8, 0, &[policy(0, 3), policy(1, 12)]);
+    assert!(listing.starts_with("1 8 0 2\n0 policy 0 0\n1 policy 0 0\n"));
+}
+
+#[test]
+fn case_h_map_1_has_no_free_node() {
+    assert_eq!(tree::free_nodes(8, 1), 0);
+}
+
+#[test]
+fn case_i_nru_map_6_word_0() {
+    let (way, word) = nru::victim(0, 6).expect("a victim");
+    assert_eq!(way, 1);
+    assert_eq!(nru::touch(word, 6, way), 0b100);
+}
+
+#[test]
+fn case_j_sets() {
+    assert_eq!(list(256, 8, 0, &[]), "256 8 0 0\n");
+    assert_eq!(list(257, 8, 0, &[]), "refused 1\n");
+    assert_eq!(list(512, 8, 0, &[]), "refused 1\n");
+}
+
+#[test]
+fn every_other_geometry() {
+    for sets in 0..=u16::MAX {
+        let stands = [1, 2, 4, 8, 16, 32, 64, 128, 256].contains(&sets);
+        assert_eq!(Geometry::new(sets, 8, 1).is_ok(), stands, "{sets} sets");
+    }
+    for number in 0..=u8::MAX {
+        assert_eq!(Geometry::new(4, number, 0).is_ok(), [2, 4, 8, 16].contains(&number), "{number} ways");
+        assert_eq!(Geometry::new(4, 16, number).is_ok(), number <= 1, "rule {number}");
+    }
+}
+
+#[test]
+fn case_k_domains() {
+    let listing = list(1, 2, 0, &[policy(15, 1), policy(16, 2)]);
+    assert_eq!(listing, "1 2 0 2\n0 policy 0 0\n1 refused 3\ndomain 15 0 0 0 0 0\n");
+}
+
+#[test]
+fn case_l_steps() {
+    let most = list(1, 2, 0, &[(0, LOAD, 0); 4096]);
+    assert_eq!(most.lines().count(), 4097);
+    assert!(most.ends_with("\n4095 refused 6\n"));
+    assert_eq!(list(1, 2, 0, &[(0, LOAD, 0); 4097]), "refused 10\n");
+    assert_eq!(list(3, 5, 7, &[(0, LOAD, 0); 4097]), "refused 10\n");
+}
+
+#[test]
+fn every_wrong_length() {
+    let whole = file(1, 2, 0, &[(0, LOAD, 0); 3]);
+    for length in 0..whole.len() {
+        assert_eq!(listing::of_file(&whole[..length]), "refused 10\n", "{length} bytes");
+    }
+    let longer = [&whole[..], &[0]].concat();
+    assert_eq!(listing::of_file(&longer), "refused 10\n");
+}
+
+/// n is a number of 32 bits: 10 × n in 32 bits would make 3 + 2^31 steps look like 3.
+#[test]
+fn a_number_of_steps_that_wraps() {
+    let mut wraps = file(1, 2, 0, &[(0, LOAD, 0); 3]);
+    wraps[7] = 0x80;
+    assert_eq!(listing::of_file(&wraps), "refused 10\n");
+}

@@ -1,0 +1,65 @@
+//! "Geometry and tables": sets, ways and rule, maps of ways, and where an address falls.
+
+use crate::refusals::Refusal;
+
+/// "A map is a 16-bit word whose bit w stands for way w."
+pub type Map = u16;
+
+/// "Lines have 64 bytes."
+const LINE_BYTES: u64 = 64;
+
+#[derive(Clone, Copy, PartialEq, Eq, Debug)]
+pub enum Rule {
+    TreePlru = 0,
+    Nru = 1,
+}
+
+#[derive(Clone, Copy, PartialEq, Eq, Debug)]
+pub struct Geometry {
+    pub sets: usize,
+    pub ways: usize,
+    pub rule: Rule,
+}
+
+impl Geometry {
+    /// "Sets S: a power of two, 1 to 256. Ways W: 2, 4, 8 or 16. Rule: 0 Tree-PLRU, 1 NRU."
+    pub fn new(sets: u16, ways: u8, rule: u8) -> Result<Geometry, Refusal> {
+        let rule = match rule {
+            0 => Rule::TreePlru,
+            1 => Rule::Nru,
+            _ => return Err(Refusal::Geometry),
+        };
+        let sets_stand = (1..=256).contains(&sets) && sets.is_power_of_two();
+        let ways_stand = matches!(ways, 2 | 4 | 8 | 16);
+        if !sets_stand || !ways_stand {
+            return Err(Refusal::Geometry);
+        }
+        Ok(Geometry { sets: usize::from(sets), ways: usize::from(ways), rule })
+    }
+
+    /// "Line = address / 64; set = line mod S; tag = line / S (whole division)." Answers the set and the tag.
+    pub fn place(&self, address: u64) -> (usize, u64) {
+        let line = address / LINE_BYTES;
+        let sets = self.sets as u64;
+        ((line % sets) as usize, line / sets)
+    }
+}
+
+/// The map of way `way` alone.
+pub fn only(way: usize) -> Map {
+    1 << way
+}
+
+/// The map of all ways below `ways`, which may be 16.
+pub fn all_ways(ways: usize) -> Map {
+    ((1u32 << ways) - 1) as Map
+}
+
+pub fn holds(map: Map, way: usize) -> bool {
+    map & only(way) != 0
+}
+
+/// The lowest way of a map, if it holds one.
+pub fn lowest(map: Map) -> Option<usize> {
+    (0..Map::BITS as usize).find(|&way| holds(map, way))
+}

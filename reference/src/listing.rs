@@ -1,0 +1,57 @@
+//! The listing: "It prints in decimal, one space between: first sets, ways, rule and n; then for each step its place
+//! from 0, a word and fields". Every line ends in a line feed, the last one too.
+
+use std::fmt::Write;
+
+use crate::cache::{Answer, Cache, DOMAINS};
+use crate::geometry::Geometry;
+use crate::trace::Trace;
+
+/// Writing to a text cannot fail.
+const WRITTEN: &str = "text takes every line";
+
+/// The whole listing of a trace file. "A file refused by 10 or by 1 gives the one line `refused` and the number."
+pub fn of_file(file: &[u8]) -> String {
+    match Trace::read(file) {
+        Ok(trace) => of_trace(&trace),
+        Err(refusal) => format!("refused {}\n", refusal.number()),
+    }
+}
+
+/// "A refused step does not end the run."
+fn of_trace(trace: &Trace) -> String {
+    let mut text = String::with_capacity(64 + 32 * trace.steps.len());
+    let Geometry { sets, ways, rule } = trace.geometry;
+    writeln!(text, "{sets} {ways} {} {}", rule as u8, trace.steps.len()).expect(WRITTEN);
+    let mut cache = Cache::fresh(trace.geometry);
+    for (place, step) in trace.steps.iter().enumerate() {
+        let answer = cache.step(step);
+        step_line(&mut text, place, answer);
+    }
+    domain_lines(&mut text, &cache);
+    text
+}
+
+/// "`hit` way; `fill` way; `evict` way, tag, dirty (0 or 1); `pass`; `flush` way, dirty; `absent`; `policy` dropped,
+/// dirty dropped; `refused` number."
+fn step_line(text: &mut String, place: usize, answer: Answer) {
+    match answer {
+        Answer::Hit { way } => writeln!(text, "{place} hit {way}"),
+        Answer::Fill { way } => writeln!(text, "{place} fill {way}"),
+        Answer::Evict { way, tag, dirty } => writeln!(text, "{place} evict {way} {tag} {}", u8::from(dirty)),
+        Answer::Pass => writeln!(text, "{place} pass"),
+        Answer::Flush { way, dirty } => writeln!(text, "{place} flush {way} {}", u8::from(dirty)),
+        Answer::Absent => writeln!(text, "{place} absent"),
+        Answer::Policy { dropped, dirty_dropped } => writeln!(text, "{place} policy {dropped} {dirty_dropped}"),
+        Answer::Refused(refusal) => writeln!(text, "{place} refused {}", refusal.number()),
+    }
+    .expect(WRITTEN);
+}
+
+/// "Then each domain whose hit map is not empty, ascending: `domain`, number and five counts."
+fn domain_lines(text: &mut String, cache: &Cache) {
+    for domain in (0..DOMAINS).filter(|&domain| cache.policy(domain).hit_map != 0) {
+        let [hits, misses, evicted, written_back, flushed] = cache.counts(domain).in_order();
+        writeln!(text, "domain {domain} {hits} {misses} {evicted} {written_back} {flushed}").expect(WRITTEN);
+    }
+}

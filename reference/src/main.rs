@@ -1,0 +1,44 @@
+//! The reference lister.
+//!
+//! It reads a trace file from standard input and writes the listing that document 01, "Trace file and listing",
+//! defines. It was written from document 01 alone, without a look at the proved code and without packages, so that
+//! `tools/compare` can set the two beside each other. Nothing here is proved: where the two programs differ, document
+//! 01 decides which of them is wrong.
+//!
+//! Each module is one part of document 01, and quotes the sentence that it follows:
+//!
+//! - [`geometry`]: sets, ways, rule, maps; where an address falls
+//! - [`tree`], [`nru`]: the two replacement rules; [`replacement`] chooses between them
+//! - [`cache`]: the tables, access, flush and policy change; [`refusals`]: when a step is turned down
+//! - [`trace`]: the trace file; [`listing`]: the text
+//!
+//! What a trace file cannot cause is left out: number 2 (the tables are made here, with the right lengths) and the
+//! numbers 1 and 5 that the replacement rules answer when they are called alone.
+
+mod cache;
+#[cfg(test)]
+mod cases;
+mod geometry;
+mod listing;
+mod nru;
+mod refusals;
+mod replacement;
+mod trace;
+mod tree;
+
+use std::io::{self, Read, Write};
+
+/// Standard input, to its end. Of a file longer than the largest one that stands, one byte too many is kept: enough
+/// for its length to be refused, however long it is.
+fn read_file() -> io::Result<Vec<u8>> {
+    let mut input = io::stdin().lock();
+    let mut file = Vec::with_capacity(trace::LARGEST_FILE + 1);
+    input.by_ref().take(trace::LARGEST_FILE as u64 + 1).read_to_end(&mut file)?;
+    io::copy(&mut input, &mut io::sink())?;
+    Ok(file)
+}
+
+fn main() -> io::Result<()> {
+    let file = read_file()?;
+    io::stdout().lock().write_all(listing::of_file(&file).as_bytes())
+}

@@ -1,0 +1,52 @@
+//! The trace file: "The file, little-endian: sets (2 bytes), ways (1), rule (1), number of steps n (4); then n codes
+//! of 2 bytes (domain, kind); then n arguments of 8 bytes. Its length is 8 + 10 × n."
+
+use crate::cache::Step;
+use crate::geometry::Geometry;
+use crate::refusals::Refusal;
+
+const HEADER: usize = 8;
+const CODE: usize = 2;
+const ARGUMENT: usize = 8;
+const MOST_STEPS: usize = 4096;
+
+/// The length of a file with as many steps as a file may have.
+pub const LARGEST_FILE: usize = HEADER + (CODE + ARGUMENT) * MOST_STEPS;
+
+#[derive(Debug)]
+pub struct Trace {
+    pub geometry: Geometry,
+    pub steps: Vec<Step>,
+}
+
+impl Trace {
+    /// Reads a whole file. Number 10 ("trace file under 8 bytes, not of its length, or with more than 4,096 steps")
+    /// "comes before all others"; then number 1, of its geometry.
+    pub fn read(file: &[u8]) -> Result<Trace, Refusal> {
+        if file.len() < HEADER {
+            return Err(Refusal::TraceFile);
+        }
+        let (header, body) = file.split_at(HEADER);
+        let n = u32::from_le_bytes([header[4], header[5], header[6], header[7]]);
+        if n > MOST_STEPS as u32 || body.len() != (CODE + ARGUMENT) * n as usize {
+            return Err(Refusal::TraceFile);
+        }
+        let sets = u16::from_le_bytes([header[0], header[1]]);
+        let geometry = Geometry::new(sets, header[2], header[3])?;
+        Ok(Trace { geometry, steps: steps(body, n as usize) })
+    }
+}
+
+/// The n steps of a body of the right length: first all codes, then all arguments.
+fn steps(body: &[u8], n: usize) -> Vec<Step> {
+    let (codes, arguments) = body.split_at(CODE * n);
+    codes
+        .chunks_exact(CODE)
+        .zip(arguments.chunks_exact(ARGUMENT))
+        .map(|(code, argument)| Step {
+            domain: code[0],
+            kind: code[1],
+            argument: u64::from_le_bytes(argument.try_into().expect("8 bytes")),
+        })
+        .collect()
+}

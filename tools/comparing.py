@@ -1,0 +1,279 @@
+"""The comparison of tools/compare: runs two programs on the same files and says where they differ."""
+
+import collections
+import itertools
+import os
+import pathlib
+import re
+import struct
+import subprocess
+import tempfile
+import time
+from dataclasses import dataclass
+
+from families import make
+from traces import GEOMETRIES, HEADER, step_of
+
+KINDS = {0: "instruction fetch", 1: "load", 2: "store", 3: "flush", 16: "policy"}
+FIRST_LINE = re.compile(rb"(?:refused (\d+)|(\d+) (\d+) (\d+) \d+)\n")
+STEP_LINE = re.compile(rb"^\d+ (?:refused (\d+)|([a-z]+)(.*))$", re.MULTILINE)
+PAUSE = 0.005  # seconds, a few times what a program needs to start and to read what is there
+
+
+# Running one program on one file.
+
+@dataclass(frozen=True)
+class Outcome:
+    """How a run ended: its status (None if it ran out of time), its output and its complaints."""
+
+    status: int | None
+    listing: bytes
+    complaints: bytes = b""
+
+
+def run(program, data, timeout, pauses=False):
+    """Gives a program a file through a pipe; with pauses, in three pieces, so that one read cannot bring it whole."""
+    middle = min(len(data) // 2, 30_000)  # no more than a pipe takes at once
+    cuts = [0, middle // 10, middle] if pauses else [0]
+    pipe = subprocess.PIPE
+    with subprocess.Popen([program], stdin=pipe, stdout=pipe, stderr=pipe) as process:
+        try:
+            for start, end in itertools.pairwise(cuts):
+                os.write(process.stdin.fileno(), data[start:end])
+                time.sleep(PAUSE)
+        except BrokenPipeError:
+            pass  # The program has read enough; what it says decides.
+        try:
+            listing, complaints = process.communicate(data[cuts[-1]:], timeout)
+        except subprocess.TimeoutExpired:
+            process.kill()
+            return Outcome(None, process.communicate()[0])
+    return Outcome(process.returncode, listing, complaints)
+
+
+def agreed(proved, reference):
+    return proved.status == reference.status == 0 and proved.listing == reference.listing
+
+
+# The files to compare on.
+
+@dataclass(frozen=True)
+class File:
+    family: str
+    name: str
+    data: bytes
+    pauses: bool = False
+
+
+def shares(families, count):
+    """How many files each family gets: one, and of the rest a part by its weight."""
+    weights = list(itertools.accumulate(family.weight for family in families))
+    rest = max(0, count - len(families))
+    ends = [round(rest * weight / weights[-1]) for weight in weights]
+    return [1 + end - start for start, end in zip([0] + ends, ends)]
+
+
+def made_files(families, options):
+    """For each family its name, what it is, and its files, made one by one."""
+    for family, number in zip(families, shares(families, options.count)):
+        files = (File(family.name, f"seed-{options.seed}-{family.name}-{index}", make(family, options.seed, index),
+                      family.pauses) for index in range(number))
+        yield family.name, family.about, files
+
+
+def given_files(paths):
+    files = [File("given", pathlib.Path(path).stem, pathlib.Path(path).read_bytes(), True) for path in paths]
+    yield "given", "files named on the command line", files
+
+
+# What was seen.
+
+class Census:
+    """How often each answer came up, by the reference's listings."""
+
+    WORDS = ["hit", "fill", "evict", "pass", "flush", "absent", "policy"]
+    DETAILS = {"evict": ("dirty", re.compile(rb" \d+ \d+ 1")), "flush": ("dirty", re.compile(rb" \d+ 1")),
+               "policy": ("dropping lines", re.compile(rb" [1-9]\d* \d+"))}
+    STEP_NUMBERS = {3: "domain 16 or more", 4: "unknown kind", 5: "policy argument", 6: "empty hit map",
+                    8: "shared way", 9: "shared node"}
+    FILE_NUMBERS = {1: "geometry", 10: "trace file"}
+
+    def __init__(self):
+        self.answers = collections.Counter()
+        self.details = collections.Counter()
+        self.refused_steps = collections.Counter()
+        self.refused_files = collections.Counter()
+        self.geometries = collections.Counter()
+        self.domain_lines = 0
+
+    def take(self, listing):
+        first = FIRST_LINE.match(listing)
+        if first is None:
+            return
+        if first[1]:
+            self.refused_files[int(first[1])] += 1
+            return
+        self.geometries[int(first[2]), int(first[3]), int(first[4])] += 1
+        self.domain_lines += listing.count(b"\ndomain ")
+        for number, word, fields in STEP_LINE.findall(listing):
+            if number:
+                self.refused_steps[int(number)] += 1
+                continue
+            word = word.decode()
+            self.answers[word] += 1
+            if word in self.DETAILS and self.DETAILS[word][1].fullmatch(fields):
+                self.details[word] += 1
+
+    def print(self):
+        steps = sum(self.answers.values()) + sum(self.refused_steps.values())
+        print(f"census, by the reference's listings: {steps:,} steps in {sum(self.geometries.values()):,} traces")
+        for word in self.WORDS:
+            detail = f"  of them {self.details[word]:,} {self.DETAILS[word][0]}" if word in self.DETAILS else ""
+            print_count(word, self.answers[word], detail)
+        for number, about in self.STEP_NUMBERS.items():
+            print_count(f"refused {number}", self.refused_steps[number], f"  {about}")
+        for number, about in self.FILE_NUMBERS.items():
+            print_count(f"refused {number}", self.refused_files[number], f"  {about}: the whole file")
+        print_count("domain", self.domain_lines, "  lines of counts")
+        rarest = min(self.geometries[geometry] for geometry in GEOMETRIES)
+        seen = sum(1 for geometry in GEOMETRIES if self.geometries[geometry])
+        print_count("geometries", seen, f"  of {len(GEOMETRIES)}, the rarest in {rarest:,} traces")
+        print("  (no file can bring about refused 2, a table's length, or 7, a full count)")
+
+
+def print_count(name, number, rest=""):
+    print(f"  {name:<11}{f'{number:,}' if number else 'NEVER':>11}{rest}")
+
+
+# Differences.
+
+def short_path(path):
+    """A path as seen from here, if it is below; else in full."""
+    path = pathlib.Path(path)
+    return str(path.relative_to(pathlib.Path.cwd())) if path.is_relative_to(pathlib.Path.cwd()) else str(path)
+
+
+def first_other_line(one, other):
+    """The number, from 0, of the first line that differs, and both lines (None where a listing has ended)."""
+    lines = itertools.zip_longest(one.splitlines(keepends=True), other.splitlines(keepends=True))
+    return next(((number, *pair) for number, pair in enumerate(lines) if pair[0] != pair[1]), None)
+
+
+def shown(line):
+    if line is None:
+        return "(the listing has ended)"
+    text = line.removesuffix(b"\n").decode("ascii", "backslashreplace")
+    text = text if text.isprintable() else repr(text)
+    text = text if len(text) <= 200 else text[:200] + " ..."
+    return text if line.endswith(b"\n") else text + "  (without a line feed)"
+
+
+def describe_step(data, line):
+    """The step that a line of the listing is about, or what else the line is."""
+    n = struct.unpack_from("<I", data, 4)[0] if len(data) >= HEADER else None
+    if n is None or len(data) != HEADER + 10 * n:
+        return f"line {line} of the listing; the file has {len(data)} bytes"
+    sets, ways, rule = struct.unpack_from("<HBB", data)
+    trace = f"{n} steps, {sets} sets, {ways} ways, rule {rule}"
+    if not 1 <= line <= n:
+        return f"line {line} of the listing of {trace}"
+    domain, kind, argument = step_of(data, line - 1)
+    return f"step {line - 1} of {trace}: domain {domain}, kind {kind} ({KINDS.get(kind, 'unknown')}), {argument:#x}"
+
+
+def describe_ending(outcome):
+    if outcome.status is None:
+        return "did not end in time"
+    complaints = outcome.complaints.decode("utf-8", "replace").strip().splitlines()
+    return f"status {outcome.status}" + (f", and says: {' '.join(complaints[:2])}" if complaints else "")
+
+
+@dataclass(frozen=True)
+class Difference:
+    file: File
+    proved: Outcome
+    reference: Outcome
+    kept: pathlib.Path
+
+    def print(self):
+        print(f"first difference: {self.file.name}, of family {self.file.family}")
+        print(f"  kept       {short_path(self.kept)}")
+        print(f"  rerun      tools/compare {short_path(self.kept)}  (with the same --proved and --reference)")
+        if self.proved.status != 0 or self.reference.status != 0:
+            print(f"  proved     {describe_ending(self.proved)}")
+            print(f"  reference  {describe_ending(self.reference)}")
+        other = first_other_line(self.proved.listing, self.reference.listing)
+        if other:
+            line, in_proved, in_reference = other
+            print(f"  at         {describe_step(self.file.data, line)}")
+            print(f"  proved     {shown(in_proved)}")
+            print(f"  reference  {shown(in_reference)}")
+
+
+class Keeper:
+    """Keeps files with a difference, in a directory that is made for the first of them."""
+
+    def __init__(self, directory):
+        self.directory = directory
+
+    def keep(self, file):
+        self.directory = pathlib.Path(self.directory or tempfile.mkdtemp(prefix="compare-"))
+        os.makedirs(self.directory, exist_ok=True)
+        kept = self.directory / f"{file.name}.trace"
+        kept.write_bytes(file.data)
+        return kept
+
+
+# The whole comparison.
+
+class Comparison:
+    """Both programs, what they have been given so far, and what came of it."""
+
+    def __init__(self, proved, reference, options):
+        self.proved, self.reference, self.options = proved, reference, options
+        self.census = Census()
+        self.keeper = Keeper(options.keep)
+        self.differences = []
+        self.tried = 0
+
+    def enough(self):
+        return len(self.differences) >= self.options.stop_after
+
+    def family(self, name, about, files):
+        """Compares on the files of one family and prints a line about it, with the first file that differs."""
+        before, tried_before = len(self.differences), self.tried
+        for file in files:
+            self.compare(file)
+            if self.enough():
+                break
+        tried, found = self.tried - tried_before, self.differences[before:]
+        kept = f"  DIFFERS, first in {short_path(found[0].kept)}" if found else ""
+        print(f"  {name:<12}{tried - len(found):>6} of {tried:<6} {about}{kept}", flush=True)
+
+    def compare(self, file):
+        reference = run(self.reference, file.data, self.options.timeout, file.pauses)
+        proved = run(self.proved, file.data, self.options.timeout, file.pauses)
+        self.tried += 1
+        self.census.take(reference.listing)
+        if not agreed(proved, reference):
+            self.differences.append(Difference(file, proved, reference, self.keeper.keep(file)))
+
+
+def report(proved, reference, families, options):
+    """Compares on all files and prints everything; the exit status."""
+    started = time.monotonic()
+    comparison = Comparison(proved, reference, options)
+    print(f"proved     {short_path(proved)}\nreference  {short_path(reference)}")
+    print("agreed, by family" + ("" if options.files else f", of seed {options.seed}"), flush=True)
+    for group in given_files(options.files) if options.files else made_files(families, options):
+        comparison.family(*group)
+        if comparison.enough():
+            print(f"given up after {len(comparison.differences)} differences (--stop-after)")
+            break
+    different = len(comparison.differences)
+    print(f"{comparison.tried - different:,} of {comparison.tried:,} agreed, in {time.monotonic() - started:.0f} s\n")
+    comparison.census.print()
+    if different:
+        print()
+        comparison.differences[0].print()
+    return 1 if different else 0
