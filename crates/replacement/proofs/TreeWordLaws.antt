@@ -9,7 +9,7 @@ use lib.Bits.{bitAnd, bitOr, bitXor, and-le-l, or-lt, xor-lt}
 use borrow.Author.Tests.{ltb-true, lt-ltb}
 use Rattle.waymap.specs.Bits.{Bits, bit, word, any}
 use Rattle.waymap.proofs.Booleans.{cases, cleared}
-use Rattle.waymap.proofs.BitLaws.{bit-and, bit-or, bit-xor, bit-not}
+use Rattle.waymap.proofs.BitLaws.{bit-none, bit-and, bit-or, bit-xor, bit-not}
 use Rattle.waymap.proofs.WordLaws.{word-lt, bit-word, bit-word-in, from-bits}
 use Rattle.waymap.proofs.WayLaws.{any-ext, any-bits, any-wider}
 use Rattle.replacement.specs.Tree.{left, right, under, free, forcedRight, walked, victim, mask, policy, masked, maskedVictim, touch, reset, shares}
@@ -96,6 +96,12 @@ reset-word W m n x {frees} {others} hx e f =
     (bit-not 64 (bitXor frees others) i (xor-lt 64 frees others (rw e (word-lt 64 (free W m))) (rw f (word-lt 64 (free W n))))
     ∙ rw (lt-ltb i 64 h, bit-xor frees others i, e, f, bit-word-in 64 (free W m) i h, bit-word-in 64 (free W n) i h))
     ∙ cleared (xor (free W m i) (free W n i)) (bit x i))
+
+pub reset-zero : (W : ℕ) (m n : Bits) {x : ℕ} → x ≡ 0 → 0 ≡ word 64 (reset W m n (bit x))
+unfolding reset
+reset-zero W m n {x} e =
+    from-bits 64 (lit≤ tt)
+    (λ i h. cases (xor (free W m i) (free W n i)) (λ t. rw t (bit-none i)) (λ t. rw (t, e)))
 
 -- ---- a node that is free for two maps
 

@@ -120,13 +120,16 @@ pub fn touched(ways: usize, word: u64, map: u16, way: usize) -> u64
     (word & !(nodes.free & path.on)) | (nodes.free & path.left)
 }
 
-// The word after a change of fill map.
+// The word after a change of fill map. A zero word stays, and costs no walk of the nodes.
 pub fn changed(ways: usize, word: u64, old: u16, new: u16) -> u64
     requires { ⌜ Sized ways ⌝ }
     requires { ⌜ old < 2 ^ ways ⌝ }
     requires { ⌜ new < 2 ^ ways ⌝ }
     ensures { λ r. ⌜ r ≡ number 64 (Tree.reset ways (bit old) (bit new) (bit word)) ⌝ }
 {
+    if word == 0 {
+        return 0;
+    }
     let before = nodes_of(ways, old);
     let after = nodes_of(ways, new);
     word & !(before.free ^ after.free)
