@@ -9,4 +9,5 @@ pub mod WalkLaws
 pub mod TreeWordLaws
 pub mod NruWordLaws
 pub mod CallLaws
+pub mod HalfLaws
 pub mod WorkedCases

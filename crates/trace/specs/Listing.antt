@@ -37,15 +37,22 @@ refused = 114 ∷ 101 ∷ 102 ∷ 117 ∷ 115 ∷ 101 ∷ 100 ∷ []
 abbrev pub domain : List ℕ
 domain = 100 ∷ 111 ∷ 109 ∷ 97 ∷ 105 ∷ 110 ∷ []
 
--- The words `hit`, `fill`, `evict`, `pass`, `flush`, `absent`, `policy` and `refused`, in the order of their numbers.
+-- The words of the answers, in the order of their numbers.
 abbrev pub words : List (List ℕ)
 words =
+    -- hit
     (104 ∷ 105 ∷ 116 ∷ [])
+    -- fill
     ∷ (102 ∷ 105 ∷ 108 ∷ 108 ∷ [])
+    -- evict
     ∷ (101 ∷ 118 ∷ 105 ∷ 99 ∷ 116 ∷ [])
+    -- pass
     ∷ (112 ∷ 97 ∷ 115 ∷ 115 ∷ [])
+    -- flush
     ∷ (102 ∷ 108 ∷ 117 ∷ 115 ∷ 104 ∷ [])
+    -- absent
     ∷ (97 ∷ 98 ∷ 115 ∷ 101 ∷ 110 ∷ 116 ∷ [])
+    -- policy
     ∷ (112 ∷ 111 ∷ 108 ∷ 105 ∷ 99 ∷ 121 ∷ [])
     ∷ refused
     ∷ []
