@@ -20,14 +20,14 @@ use Rattle.cache.specs.Geometry.{within}
 use Rattle.cache.specs.Tables.{rowAt}
 use Rattle.cache.specs.Domains.{noDomain, domainOf, policies}
 use Rattle.cache.specs.Step.{State, Outcome, step}
-use Rattle.cache.specs.Run.{Command, stepOn, finally}
+use Rattle.cache.specs.Run.{Command, stepOn, answersOf, finally}
 use Rattle.cache.specs.Fresh.{freshTables, freshDomains, fresh}
 use Rattle.cache.specs.Inside.{Limited, Shaped}
 use Rattle.cache.specs.declared.Geometry.{Geometry}
 use Rattle.cache.specs.declared.Domain.{Domain}
 use Rattle.cache.proofs.GeometryLaws.{limited}
 use Rattle.isolation.specs.Purge.{belongs, keeps, purge}
-use Rattle.isolation.specs.StruckOut.{ownAnswers, verdicts, SameTo, StruckOut}
+use Rattle.isolation.specs.StruckOut.{answersTo, ownAnswers, verdicts, SameTo, StruckOut}
 use Rattle.isolation.proofs.Relation.{Whole, Separate, Related, Alike}
 use Rattle.isolation.proofs.RowUnwinding.{rule, view-same}
 use Rattle.isolation.proofs.LineUnwinding.{policy-cut}
@@ -84,7 +84,7 @@ module _ (g : Geometry) (limits : within g ≡ true) (d : ℕ) (low : d < 16) wh
   -- ---- a list of steps and its purge, from related states
 
   answers-from : (cs : List Command) (a b : State) → Related g d a b → ownAnswers g d cs a ≡ ownAnswers g d (purge d cs) b
-  unfolding ownAnswers purge
+  unfolding ownAnswers answersTo answersOf purge
   answers-from [] a b rel = refl
   answers-from (c ∷ cs) a b rel =
       cases (keeps d c)
@@ -95,13 +95,16 @@ module _ (g : Geometry) (limits : within g ≡ true) (d : ℕ) (low : d < 16) wh
       (λ t. rw (t, struck d c t .other) (answers-from cs (stepOn g c a .state) b (locally-respects g limits d low a b rel c t)))
 
   verdicts-from : (cs : List Command) (a b : State) → Related g d a b → verdicts g d cs a ≡ verdicts g d (purge d cs) b
-  unfolding verdicts purge
+  unfolding verdicts answersTo answersOf purge
   verdicts-from [] a b rel = refl
   verdicts-from (c ∷ cs) a b rel =
       cases (keeps d c)
       (λ t. rw t
       (cases (eqb (c .kind) 16)
-      (λ u. rw u (ap₂ (λ (n : ℕ) (r : List ℕ). cond (not (belongs d c)) (n ∷ r) r) (verdict-consistent g limits d low a b rel c u) (verdicts-from cs (stepOn g c a .state) (stepOn g c b .state) (step-consistent g limits d low a b rel c t))))
+      (λ u. rw u
+      (cases (belongs d c)
+      (λ v. rw v (verdicts-from cs (stepOn g c a .state) (stepOn g c b .state) (step-consistent g limits d low a b rel c t)))
+      (λ v. rw v (ap₂ _∷_ (verdict-consistent g limits d low a b rel c u) (verdicts-from cs (stepOn g c a .state) (stepOn g c b .state) (step-consistent g limits d low a b rel c t))))))
       (λ u. rw u (verdicts-from cs (stepOn g c a .state) (stepOn g c b .state) (step-consistent g limits d low a b rel c t)))))
       (λ t. rw (t, ne-eqb (c .kind) 16 (λ e. omega (arith, struck d c t .kind, e))) (verdicts-from cs (stepOn g c a .state) b (locally-respects g limits d low a b rel c t)))
 

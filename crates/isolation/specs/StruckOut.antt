@@ -1,26 +1,28 @@
 -- What is equal in the run and in the struck-out run.
 use mathlib.Core.Path.{_≡_}
 use mathlib.Core.Bool.{Bool, true, cond, not, _&&_}
-use mathlib.Core.List.{List, [], _∷_}
+use mathlib.Core.List.{List, [], _∷_, map}
 use Prim.Native.Nat.{ℕ, _<_}
 use lib.Dec.{eqb}
 use Rattle.replacement.specs.Rule.{Rule, ruleOf}
 use Rattle.row.specs.View.{SameView}
 use Rattle.cache.specs.Tables.{rowAt}
 use Rattle.cache.specs.Domains.{domainOf, policies}
-use Rattle.cache.specs.Step.{State, Outcome}
-use Rattle.cache.specs.Run.{Command, stepOn, finally}
+use Rattle.cache.specs.Step.{State}
+use Rattle.cache.specs.Run.{Command, answersOf, finally}
 use Rattle.cache.specs.Fresh.{fresh}
 use Rattle.cache.specs.declared.Geometry.{Geometry}
 use Rattle.isolation.specs.Purge.{belongs, purge}
 
+-- Of the answers of a run, those to the steps that pass a test.
+unfoldable pub answersTo : (Command → Bool) → List Command → List (List ℕ) → List (List ℕ)
+answersTo p [] answers = []
+answersTo p (c ∷ cs) [] = []
+answersTo p (c ∷ cs) (a ∷ answers) = cond (p c) (a ∷ answersTo p cs answers) (answersTo p cs answers)
+
 -- "the whole answers to the steps that belong to the chosen domain, first to last, refusal numbers too"
 unfoldable pub ownAnswers : Geometry → ℕ → List Command → State → List (List ℕ)
-ownAnswers g d [] s = []
-ownAnswers g d (c ∷ cs) s =
-    let o = stepOn g c s in
-    let rest = ownAnswers g d cs (o .state) in
-    cond (belongs d c) (o .answer ∷ rest) rest
+ownAnswers g d cs s = answersTo (belongs d) cs (answersOf g cs s)
 
 -- Whether an answer is a refusal, word 7, and its number if so; 0 for a step that is accepted.
 unfoldable pub numberOf : List ℕ → ℕ
@@ -30,11 +32,7 @@ numberOf (w ∷ n ∷ rest) = cond (eqb w 7) n 0
 
 -- "for each policy change of another domain, whether it is accepted, and the number if it is not"
 unfoldable pub verdicts : Geometry → ℕ → List Command → State → List ℕ
-verdicts g d [] s = []
-verdicts g d (c ∷ cs) s =
-    let o = stepOn g c s in
-    let rest = verdicts g d cs (o .state) in
-    cond (eqb (c .kind) 16 && not (belongs d c)) (numberOf (o .answer) ∷ rest) rest
+verdicts g d cs s = map numberOf (answersTo (λ c. eqb (c .kind) 16 && not (belongs d c)) cs (answersOf g cs s))
 
 -- What the chosen domain can see at the end: "both its maps and all its counts; then, in every set, the valid bit, dirty bit and tag of
 -- each of its ways, which are the ways in its hit map at that moment, and its own replacement bits".
