@@ -1,33 +1,13 @@
 // A domain's counts.
-use crate::Counts;
 use row::Answer;
+use verdict::Counts;
 ghost use mathlib.Core.Path.{_≡_};
 ghost use mathlib.Core.Bool.{false, cond};
 ghost use Prim.Native.Nat.{_+_, _<_};
 ghost use lib.Dec.{eqb};
 ghost use Rattle.waymap.specs.Bits.{digit};
-ghost use Rattle.cache.specs.Domains.{noCounts, isFull, counted as countedBy};
-
-const LARGEST: u32 = 4_294_967_295;
-
-// Whether a count has reached the largest number.
-pub fn is_full(c: Counts) -> bool
-    ensures { λ r. ⌜ r ≡ isFull c ⌝ }
-{
-    if c.hits == LARGEST {
-        return true;
-    }
-    if c.misses == LARGEST {
-        return true;
-    }
-    if c.evicted == LARGEST {
-        return true;
-    }
-    if c.written == LARGEST {
-        return true;
-    }
-    c.flushed == LARGEST
-}
+ghost use Rattle.verdict.specs.Domains.{noCounts, isFull};
+ghost use Rattle.cache.specs.Domains.{counted as countedBy};
 
 // One more where the line is dirty.
 fn with_dirty(written: u32, dirty: bool) -> u32

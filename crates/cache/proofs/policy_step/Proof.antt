@@ -1,19 +1,10 @@
 -- `cache::policy_step` meets its contract.
-use borrow.Author.Needs.{needs}
-use Rattle.cache.specs.Domains.{domainOf}
+use Rattle.verdict.specs.Domains.{domainOf}
 use Rattle.cache.specs.Step.{tablesOf}
-use Rattle.cache.proofs.StepLaws.{policy-refused, policy-done}
+use Rattle.cache.proofs.StepLaws.{policy-done}
+use borrow.Author.Needs.{needs}
 use Rattle.cache.proofs.policy_step.Statement.{statement}
 use Rattle.cache.proofs.policy_step.Tie as tie
-
-policy-refusal-requires : tie.Need-policy-refusal-requires
-policy-refusal-requires c κs = search needs
-
-returns : tie.Need-returns
-unfolding domainOf
-returns c =
-    let a = c .before .before .before .before .before .before .args in
-    policy-refused (a .g) (a .domain) (a .argument) (tablesOf (a .tags .now) (a .valid .now) (a .dirty .now) (a .words .now)) (a .t6) (c .before .policy-refusal .ensures) (c .if1 .taken)
 
 mul-own : tie.Need-mul-own
 mul-own c = search needs
@@ -30,8 +21,8 @@ sweep-sets-requires c κs = search needs
 kept-requires : tie.Need-kept-requires
 kept-requires c κs = search needs
 
-mul-t20 : tie.Need-mul-t20
-mul-t20 c = search needs
+mul-t15 : tie.Need-mul-t15
+mul-t15 c = search needs
 
 element-set-from-next : tie.Need-element-set-from-next
 element-set-from-next c = search needs
@@ -48,27 +39,23 @@ same-length-3 c = search needs
 same-length-4 : tie.Need-same-length-4
 same-length-4 c = search needs
 
-returns-2 : tie.Need-returns-2
+returns : tie.Need-returns
 unfolding domainOf
-returns-2 c =
-    let a = c .before .before .before .before .before .before .before .before .before .before .before .before .before .before .before .before .before .before .before .before .before .before .args in
-    policy-done (a .g) (a .domain) (a .argument) (tablesOf (a .tags .now) (a .valid .now) (a .dirty .now) (a .words .now)) (a .t6) (c .before .before .before .before .before .before .before .before .before .before .before .before .before .before .before .before .before .policy-refusal .ensures) (c .before .before .before .before .before .before .before .before .before .before .before .before .before .before .before .before .if1 .left) (c .before .before .before .before .before .before .before .before .before .before .before .before .before .before .new-maps .ensures) (c .before .before .before .before .before .before .before .before .before .sweep-sets .ensures) (c .kept .ensures)
+returns c = let a = (c .before .before .before .before .before .before .before .before .before .before .before .before .before .before .before .before .before .before .before .before .args) in policy-done (a .g) (a .domain) (a .argument) (tablesOf (a .tags .now) (a .valid .now) (a .dirty .now) (a .words .now)) (a .t6) (c .before .before .before .before .before .before .before .before .before .before .before .before .before .before .new-maps .ensures) (c .before .before .before .before .before .before .before .before .before .sweep-sets .ensures) (c .kept .ensures)
 
 pub policy-step-spec : {M : Type 1} → statement M
 policy-step-spec =
     tie.close
     (tie.spec
-    policy-refusal-requires
-    returns
     mul-own
     element-copy-out-own
     new-maps-requires
     sweep-sets-requires
     kept-requires
-    mul-t20
+    mul-t15
     element-set-from-next
     same-length
     same-length-2
     same-length-3
     same-length-4
-    returns-2)
+    returns)
