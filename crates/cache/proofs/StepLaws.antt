@@ -29,8 +29,10 @@ use Rattle.verdict.proofs.RefusalLaws.{Stands, stands, not-full}
 use Rattle.cache.specs.Geometry.{setOf, tagOf}
 use Rattle.cache.specs.Tables.{Tables, lengths, rowAt, putRow}
 use Rattle.cache.specs.Domains.{putDomain, counted}
-use Rattle.cache.specs.Step.{State, Outcome, answers, onSet, rowEffect, useLine, newDomain, changePolicy, stepBy, decided, step}
+use Rattle.cache.specs.Step.{State, Outcome, outcome, answers, onSet, rowEffect, useLine, newDomain, changePolicy, stepBy, decided, step}
 use Rattle.cache.specs.Inside.{Shaped, Work, RowWork, onRow, workOf, workAt, AllSwept, lineWork}
+use Rattle.cache.specs.declared.Stepped.{Stepped}
+use Rattle.cache.specs.declared.sets.Drops.{Drops}
 use Rattle.cache.proofs.SetLaws.{row-long}
 
 -- ---- a verdict, and what is done without one
@@ -71,17 +73,18 @@ module _ (g : Geometry) (d : ℕ) (flushes store : Bool) (arg : ℕ) (t : Tables
       line-work g flushes store stored (tagOf g arg) (rowAt (g .ways) (setOf g arg) t) (h .limited .limits)
       (row-long g h (setOf g arg) (mod-lt (arg / 64) (h .limited .some-set)))
 
-  pub line-done : {a : Answer} {u : Tables} {c : Counts} → RowWork a u (workAt g flushes store stored arg t) → c ≡ counted a (own .counts)
-      → record { answer = answerOf a; state = record { tables = u; domains = record { records = set (ds .records) d (record { hit = own .hit; fill = own .fill; counts = c }) } } }
-      ≡ useLine g (lineWork flushes (ruleOf (g .rule) (g .ways)) store) d arg before
-  unfolding workAt onRow useLine onSet putDomain effect
-  line-done {a} {u} {c} e f = λ i. record {
-    answer = answerOf (answer-is i);
-    state = record {
-      tables = tables-is i;
-      domains = record { records = set (ds .records) d (record { hit = own .hit; fill = own .fill; counts = counts-is i }) };
-    };
-  }
+  pub line-done : {a : Answer} {u : Tables} {r : Stepped} → RowWork a u (workAt g flushes store stored arg t)
+      → r ≡ record { answer = a; domains = putDomain d (record { hit = own .hit; fill = own .fill; counts = counted a (own .counts) }) ds }
+      → outcome r u ≡ useLine g (lineWork flushes (ruleOf (g .rule) (g .ways)) store) d arg before
+  unfolding workAt onRow useLine onSet effect
+  line-done {a} {u} {r} e f =
+      ap (λ (x : Stepped). outcome x u) f ∙ (λ i. record {
+        answer = answerOf (answer-is i);
+        state = record {
+          tables = tables-is i;
+          domains = putDomain d (record { hit = own .hit; fill = own .fill; counts = counted (answer-is i) (own .counts) }) ds;
+        };
+      })
     where
       answer-is : a ≡ effect .answer
       answer-is = ap (λ (w : Work). w .answer) e ∙ ap (λ (x : Effect). x .answer) effect-is
@@ -89,18 +92,15 @@ module _ (g : Geometry) (d : ℕ) (flushes store : Bool) (arg : ℕ) (t : Tables
       tables-is : u ≡ putRow (g .ways) (setOf g arg) (effect .row) t
       tables-is = ap (λ (w : Work). w .tables) e ∙ ap (λ (x : Effect). putRow (g .ways) (setOf g arg) (x .row) t) effect-is
 
-      counts-is : c ≡ counted (effect .answer) (own .counts)
-      counts-is = f ∙ ap (λ (x : Answer). counted x (own .counts)) answer-is
-
 -- ---- a change of policy
 
-pub policy-done : (g : Geometry) (d arg : ℕ) (t : Tables) (ds : Domains) {u : Tables} {drops dirt : ℕ} {new : Maps} {c : Counts} → new ≡ newMaps arg
-    → AllSwept g (record { hit = domainOf ds d .hit; fill = domainOf ds d .fill }) new (g .sets) t u drops dirt
-    → c ≡ cond (eqb arg 0) noCounts (domainOf ds d .counts)
-    → record { answer = answerOf (Policy drops dirt); state = record { tables = u; domains = record { records = set (ds .records) d (record { hit = new .hit; fill = new .fill; counts = c }) } } }
-    ≡ changePolicy g d arg (record { tables = t; domains = ds })
-unfolding changePolicy newDomain putDomain policies
-policy-done g d arg t ds m e f = rw (e .tables-is, e .dropped-is, e .dirty-is, f, m)
+pub policy-done : (g : Geometry) (d arg : ℕ) (t : Tables) (ds : Domains) {u : Tables} {old new : Maps} {drops : Drops} {r : Stepped}
+    → old ≡ record { hit = domainOf ds d .hit; fill = domainOf ds d .fill } → new ≡ newMaps arg
+    → AllSwept g old new (g .sets) t u (drops .dropped) (drops .dirty)
+    → r ≡ record { answer = Policy (drops .dropped) (drops .dirty); domains = putDomain d (newDomain arg (domainOf ds d)) ds }
+    → outcome r u ≡ changePolicy g d arg (record { tables = t; domains = ds })
+unfolding changePolicy policies
+policy-done g d arg t ds o m e f = rw (f, e .tables-is, e .dropped-is, e .dirty-is, o, m)
 
 -- ---- the step
 
@@ -127,41 +127,52 @@ module _ (g : Geometry) (d kind arg : ℕ) (t : Tables) (ds : Domains) {n : ℕ}
   abbrev found : State
   found = record { tables = t; domains = ds }
 
-  pub step-refused : (n ≡ 0 → ⊥) → answers (Refused n) found ≡ step g d kind arg found
+  pub step-refused : {r : Stepped} → (n ≡ 0 → ⊥) → r ≡ record { answer = Refused n; domains = ds } → outcome r t ≡ step g d kind arg found
   unfolding step
-  step-refused z = rw (← e) (decided-no (stepBy (kindOf kind) g d arg found) found z)
+  step-refused z f = ap (λ (x : Stepped). outcome x t) f ∙ rw (← e) (decided-no (stepBy (kindOf kind) g d arg found) found z)
 
   module _ (z : n ≡ 0) where
     -- what the verdict says of a step that it lets pass
     passed : Stands g (lengths t) (policies (g .ways) ds) (domainOf ds d .counts) d kind arg
     passed = stands g (lengths t) (policies (g .ways) ds) (domainOf ds d .counts) d kind arg e z
 
-    pub policy-ready : (Shaped g t) × (d < 16)
-    policy-ready = (shaped g t (passed .within-is) (passed .sized-is), passed .domain-lt)
+    pub is-shaped : Shaped g t
+    is-shaped = shaped g t (passed .within-is) (passed .sized-is)
 
-    pub line-ready : (flushes store : Bool) → kindIs (AskedIs.Line flushes store) ≡ kindOf kind
-        → (Shaped g t) × ((d < 16) × (isFull (domainOf ds d .counts) ≡ false))
+    pub is-domain : d < 16
+    is-domain = passed .domain-lt
+
+    pub has-room : (flushes store : Bool) → kindIs (AskedIs.Line flushes store) ≡ kindOf kind → isFull (domainOf ds d .counts) ≡ false
     unfolding refusalBy
-    line-ready true store k =
-        (policy-ready .0, (policy-ready .1, not-full (policies (g .ways) ds d) (domainOf ds d .counts) (rw (← k) at (passed .kind-is))))
-    line-ready false store k =
-        (policy-ready .0, (policy-ready .1, not-full (policies (g .ways) ds d) (domainOf ds d .counts) (rw (← k) at (passed .kind-is))))
+    has-room true store k = not-full (policies (g .ways) ds d) (domainOf ds d .counts) (rw (← k) at (passed .kind-is))
+    has-room false store k = not-full (policies (g .ways) ds d) (domainOf ds d .counts) (rw (← k) at (passed .kind-is))
 
     -- the step is then the work of its kind
     done : stepBy (kindOf kind) g d arg found ≡ step g d kind arg found
     unfolding step
     done = rw (← e) (decided-yes (stepBy (kindOf kind) g d arg found) found z)
 
-    pub step-line : (flushes store : Bool) {o : Outcome} → kindIs (AskedIs.Line flushes store) ≡ kindOf kind
-        → o ≡ useLine g (lineWork flushes (ruleOf (g .rule) (g .ways)) store) d arg found → o ≡ step g d kind arg found
+    line-is : (flushes store : Bool) → kindIs (AskedIs.Line flushes store) ≡ kindOf kind
+        → useLine g (lineWork flushes (ruleOf (g .rule) (g .ways)) store) d arg found ≡ step g d kind arg found
     unfolding stepBy
-    step-line true store k q = q ∙ ap (λ (x : Kind). stepBy x g d arg found) k ∙ done
-    step-line false store k q = q ∙ ap (λ (x : Kind). stepBy x g d arg found) k ∙ done
+    line-is true store k = ap (λ (x : Kind). stepBy x g d arg found) k ∙ done
+    line-is false store k = ap (λ (x : Kind). stepBy x g d arg found) k ∙ done
 
-    pub step-policy : {o : Outcome} → policy ≡ kindOf kind → o ≡ changePolicy g d arg found → o ≡ step g d kind arg found
-    unfolding stepBy
-    step-policy k q = q ∙ ap (λ (x : Kind). stepBy x g d arg found) k ∙ done
+    pub step-line : (flushes store : Bool) {maps : Maps} {a : Answer} {u : Tables} {r : Stepped} → kindIs (AskedIs.Line flushes store) ≡ kindOf kind
+        → maps ≡ record { hit = domainOf ds d .hit; fill = domainOf ds d .fill } → RowWork a u (workAt g flushes store maps arg t)
+        → r ≡ record { answer = a; domains = putDomain d (record { hit = domainOf ds d .hit; fill = domainOf ds d .fill; counts = counted a (domainOf ds d .counts) }) ds }
+        → outcome r u ≡ step g d kind arg found
+    step-line flushes store {maps} k m w f =
+        line-done g d flushes store arg t ds is-shaped (w ∙ ap (λ (x : Maps). workAt g flushes store x arg t) m) f ∙ line-is flushes store k
 
-    pub step-unknown : unknown ≡ kindOf kind → answers (Refused 4) found ≡ step g d kind arg found
+    pub step-policy : {u : Tables} {old new : Maps} {drops : Drops} {r : Stepped} → policy ≡ kindOf kind
+        → old ≡ record { hit = domainOf ds d .hit; fill = domainOf ds d .fill } → new ≡ newMaps arg
+        → AllSwept g old new (g .sets) t u (drops .dropped) (drops .dirty)
+        → r ≡ record { answer = Policy (drops .dropped) (drops .dirty); domains = putDomain d (newDomain arg (domainOf ds d)) ds }
+        → outcome r u ≡ step g d kind arg found
     unfolding stepBy
-    step-unknown k = ap (λ (x : Kind). stepBy x g d arg found) k ∙ done
+    step-policy k o m e f = policy-done g d arg t ds o m e f ∙ ap (λ (x : Kind). stepBy x g d arg found) k ∙ done
+
+    pub step-unknown : {r : Stepped} → unknown ≡ kindOf kind → r ≡ record { answer = Refused 4; domains = ds } → outcome r t ≡ step g d kind arg found
+    unfolding stepBy
+    step-unknown k f = ap (λ (x : Stepped). outcome x t) f ∙ ap (λ (x : Kind). stepBy x g d arg found) k ∙ done
