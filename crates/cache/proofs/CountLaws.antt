@@ -13,8 +13,9 @@ use Rattle.row.proofs.Answer.{the-type}
 use Rattle.row.specs.declared.Answer.{Answer}
 use Rattle.row.specs.declared.Answer.the-variants.{Hit, Fill, Evict, Pass, Flush, Absent, Policy, Refused}
 use Rattle.waymap.proofs.Booleans.{or-none}
-use Rattle.cache.specs.Domains.{isFull, counted}
-use Rattle.cache.specs.declared.Counts.{Counts}
+use Rattle.verdict.specs.Domains.{isFull}
+use Rattle.verdict.specs.declared.Counts.{Counts}
+use Rattle.cache.specs.Domains.{counted}
 
 -- ---- room for one more
 

@@ -8,9 +8,10 @@ use lib.ListN.{length, getD, set, length-set}
 use lib.Seq.{getD-set-same, getD-set-other}
 use Rattle.row.specs.Row.{asRead}
 use Rattle.row.specs.declared.Maps.{Maps}
-use Rattle.cache.specs.Domains.{noDomain, domainOf, putDomain, policies}
-use Rattle.cache.specs.declared.Domain.{Domain}
-use Rattle.cache.specs.declared.Domains.{Domains}
+use Rattle.verdict.specs.Domains.{noDomain, domainOf, policies}
+use Rattle.verdict.specs.declared.Domain.{Domain}
+use Rattle.verdict.specs.declared.Domains.{Domains}
+use Rattle.cache.specs.Domains.{putDomain}
 
 module _ (ds : Domains) (d : ℕ) (x : Domain) where
   pub put-sixteen : length (ds .records) ≡ 16 → length (putDomain d x ds .records) ≡ 16

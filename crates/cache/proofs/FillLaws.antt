@@ -11,12 +11,15 @@ use Rattle.waymap.proofs.Booleans.{cases}
 use Rattle.replacement.specs.Rule.{Rule, ruleOf}
 use Rattle.replacement.specs.Calls.{Result, result, inLimits, freshOf as freshWord}
 use Rattle.replacement.specs.declared.Outcome.{Outcome}
-use Rattle.cache.specs.Geometry.{within}
-use Rattle.cache.specs.Tables.{Tables, lengths, sized}
+use Rattle.verdict.specs.Geometry.{within, sized}
+use Rattle.verdict.specs.Calls.{sizesOf}
+use Rattle.verdict.specs.declared.Geometry.{Geometry}
+use Rattle.verdict.proofs.RefusalLaws.{sizes-passed}
+use Rattle.cache.specs.Tables.{Tables, lengths}
 use Rattle.cache.specs.Fresh.{freshTables, Made, madeOf, freshOf}
 use Rattle.cache.specs.Step.{tablesOf}
-use Rattle.cache.specs.Inside.{Shaped, earlyRefusal}
-use Rattle.cache.specs.declared.Geometry.{Geometry}
+use Rattle.cache.specs.Inside.{Shaped}
+use Rattle.cache.proofs.StepLaws.{shaped}
 
 -- The first i places are v, and the others as they were.
 pub record Filling (v : ℕ) (old new : List ℕ) (i : ℕ) : Type 0 where
@@ -45,8 +48,8 @@ end {v} {old} {new} {i} l h =
 -- ---- the call
 
 module _ (g : Geometry) (t : Tables) where
-  pub fresh-refused : {n : ℕ} → n ≡ earlyRefusal g (lengths t) 0 → (n ≡ 0 → ⊥) → madeOf n t ≡ freshOf g t
-  unfolding earlyRefusal freshOf
+  pub fresh-refused : {n : ℕ} → n ≡ sizesOf g (lengths t) → (n ≡ 0 → ⊥) → madeOf n t ≡ freshOf g t
+  unfolding sizesOf freshOf
   fresh-refused {n} e z =
       cases (within g)
       (λ w. cases (sized g (lengths t))
@@ -54,20 +57,19 @@ module _ (g : Geometry) (t : Tables) where
       (λ s. rw (w, s) (ap (λ (k : ℕ). madeOf k t) (e ∙ rw (w, s)))))
       (λ w. rw w (ap (λ (k : ℕ). madeOf k t) (e ∙ rw w)))
 
-  pub fresh-made : (o : Outcome) {tags valid dirty words : List ℕ} → earlyRefusal g (lengths t) 0 ≡ 0 → Shaped g t
+  pub fresh-made : (o : Outcome) {n : ℕ} {tags valid dirty words : List ℕ} → n ≡ sizesOf g (lengths t) → n ≡ 0
       → result o ≡ freshWord (g .ways) (g .rule) → tags ≡ replicate (length (t .tags)) 0 → valid ≡ replicate (length (t .valid)) 0
       → dirty ≡ replicate (length (t .dirty)) 0 → words ≡ replicate (length (t .words)) (o .word)
       → madeOf 0 (tablesOf tags valid dirty words) ≡ freshOf g t
-  unfolding earlyRefusal freshOf freshTables freshWord
-  fresh-made o {tags} {valid} {dirty} {words} e h f a b c d =
-      cases (within g)
-      (λ w. cases (sized g (lengths t))
-      (λ s. rw (w, s, a, b, c, d, h .tags-long, h .valid-long, h .dirty-long, h .words-long, word-is))
-      (λ s. absurd (nonzero 1 (rw (w, s) at e))))
-      (λ w. absurd (nonzero 0 (rw w at e)))
+  unfolding freshOf freshTables freshWord
+  fresh-made o {n} {tags} {valid} {dirty} {words} q z f a b c d =
+      rw (passed .0, passed .1, a, b, c, d, h .tags-long, h .valid-long, h .dirty-long, h .words-long, word-is)
     where
-      nonzero : (n : ℕ) → suc n ≡ 0 → ⊥
-      nonzero n q = omega arith
+      passed : (within g ≡ true) × (sized g (lengths t) ≡ true)
+      passed = sizes-passed g (lengths t) (sym q ∙ z)
+
+      h : Shaped g t
+      h = shaped g t (passed .0) (passed .1)
 
       word-is : o .word ≡ ruleOf (g .rule) (g .ways) .fresh
       word-is = ap (λ (r : Result). r .word) (rw (h .limited .limits) at f)

@@ -1,9 +1,8 @@
 -- The laws that the crates above cite.
-pub mod GeometryLaws
+pub mod PlaceLaws
 pub mod CountLaws
 pub mod SetLaws
 pub mod SweepLaws
-pub mod RefusalLaws
 pub mod DomainLaws
 pub mod StepLaws
 pub mod FillLaws

@@ -1,38 +1,38 @@
 -- A step: what it gives, by what its tests find.
-use mathlib.Core.Path.{_≡_, refl, sym, ap, ap₂, _∙_}
-use mathlib.Core.Bool.{Bool, true, false, cond, not, _&&_, false≢true}
-use mathlib.Core.List.{List, [], _∷_}
-use Prim.Native.Nat.{ℕ, zero, suc, _+_, _*_, _/_, _≤_, _<_}
+use mathlib.Core.Path.{_≡_, ap, _∙_}
+use mathlib.Core.Bool.{Bool, true, false, cond, _&&_}
+use Prim.Native.Nat.{ℕ, _*_, _/_, _<_}
 use native.Mathlib.Nat.{mod-lt}
-use native.Mathlib.Omega.{arith}
-use lib.Dec.{eqb, leb, ltb}
+use lib.Dec.{eqb, ltb}
 use lib.ListN.{length, set}
-use borrow.Author.Tests.{eqb-true, ne-eqb, leb-false}
-use Rattle.waymap.proofs.Booleans.{cases, and-left, and-right}
+use borrow.Author.Tests.{eqb-true, ne-eqb}
+use Rattle.waymap.proofs.Booleans.{and-left, and-right}
 use Rattle.replacement.specs.Rule.{Rule, ruleOf}
 use Rattle.replacement.specs.Calls.{isWays, inLimits}
 use Rattle.row.specs.Answer.{answerOf}
-use Rattle.row.specs.Row as Row
-use Rattle.row.specs.Row.{Row, Effect, asRead, dropped, droppedDirty, cleaned}
+use Rattle.row.specs.Row.{Row, Effect, asRead}
 use Rattle.row.specs.Calls.{accessOf, flushOf}
 use Rattle.row.specs.declared.Maps.{Maps}
 use Rattle.row.specs.declared.Answer.{Answer}
 use Rattle.row.specs.declared.Answer.the-variants.{Policy, Refused}
-use Rattle.cache.specs.Geometry.{within, setOf, tagOf}
-use Rattle.cache.specs.Tables.{Tables, Lengths, lengths, sized, rowAt, putRow, eachSet, total}
-use Rattle.cache.specs.Domains.{domainOf, putDomain, policies, isFull, counted, noCounts}
-use Rattle.cache.specs.Refusal.{Kind, access, flush, policy, unknown, kindOf, newMaps, useRefusal, policyRefusal, refusalBy, refusal}
-use Rattle.cache.specs.Step.{State, Outcome, answers, onSet, rowEffect, useLine, newDomain, changePolicy, stepBy, decided, step}
-use Rattle.cache.specs.Inside.{Limited, Shaped, Work, RowWork, onRow, workOf, workAt, AllSwept, kindIs, earlyRefusal, lineWork, lineStep, policyStep}
-use Rattle.cache.specs.declared.Geometry.{Geometry}
-use denote.Enum.Declared.{tagOf as variantOf}
-use Rattle.cache.proofs.Asked.{the-type}
-use Rattle.cache.specs.declared.Asked.{Asked}
-use Rattle.cache.specs.declared.Asked.the-variants as AskedIs
-use Rattle.cache.specs.declared.Counts.{Counts}
-use Rattle.cache.specs.declared.Domain.{Domain}
-use Rattle.cache.specs.declared.Domains.{Domains}
-use Rattle.cache.proofs.GeometryLaws.{limited}
+use Rattle.verdict.specs.Geometry.{within, sized}
+use Rattle.verdict.specs.Domains.{noCounts, domainOf, policies, isFull}
+use Rattle.verdict.specs.Refusal.{Kind, policy, unknown, kindOf, newMaps, refusalBy, refusal}
+use Rattle.verdict.specs.Inside.{kindIs}
+use Rattle.verdict.specs.declared.Geometry.{Geometry}
+use Rattle.verdict.specs.declared.Asked.the-variants as AskedIs
+use Rattle.verdict.specs.declared.Counts.{Counts}
+use Rattle.verdict.specs.declared.Domain.{Domain}
+use Rattle.verdict.specs.declared.Domains.{Domains}
+use Rattle.verdict.proofs.GeometryLaws.{limited}
+use Rattle.verdict.proofs.RefusalLaws.{Stands, stands, not-full}
+use Rattle.cache.specs.Geometry.{setOf, tagOf}
+use Rattle.cache.specs.Tables.{Tables, lengths, rowAt, putRow}
+use Rattle.cache.specs.Domains.{putDomain, counted}
+use Rattle.cache.specs.Step.{State, Outcome, outcome, answers, onSet, rowEffect, useLine, newDomain, changePolicy, stepBy, decided, step}
+use Rattle.cache.specs.Inside.{Shaped, Work, RowWork, onRow, workOf, workAt, AllSwept, lineWork}
+use Rattle.cache.specs.declared.Stepped.{Stepped}
+use Rattle.cache.specs.declared.sets.Drops.{Drops}
 use Rattle.cache.proofs.SetLaws.{row-long}
 
 -- ---- a verdict, and what is done without one
@@ -44,14 +44,6 @@ decided-no {n} done s h = rw (ne-eqb n 0 h)
 pub decided-yes : {n : ℕ} (done : Outcome) (s : State) → n ≡ 0 → done ≡ decided n done s
 unfolding decided
 decided-yes {n} done s e = rw e
-
--- a domain that numbers 6 and 7 let pass has room in its counts
-pub not-full : (p : Maps) (c : Counts) → useRefusal p c ≡ 0 → isFull c ≡ false
-unfolding useRefusal
-not-full p c e =
-    cases (isFull c)
-    (λ t. absurd (cases (eqb (p .hit) 0) (λ q. let z : _≡_ {A = ℕ} 6 0 = rw q at e in omega arith) (λ q. let z : _≡_ {A = ℕ} 7 0 = rw (q, t) at e in omega arith)))
-    (λ t. t)
 
 -- ---- an access or a flush
 
@@ -72,142 +64,115 @@ module _ (g : Geometry) (d : ℕ) (flushes store : Bool) (arg : ℕ) (t : Tables
   abbrev stored : Maps
   stored = record { hit = own .hit; fill = own .fill }
 
-  module _ {read : Maps} {n : ℕ} (r : read ≡ asRead (g .ways) stored) (q : n ≡ useRefusal read (own .counts)) where
-    number : n ≡ useRefusal (policies (g .ways) ds d) (own .counts)
-    unfolding policies
-    number = q ∙ ap (λ (p : Maps). useRefusal p (own .counts)) r
+  effect : Effect
+  effect = rowEffect g (lineWork flushes (ruleOf (g .rule) (g .ways)) store) d arg before
 
-    pub line-refused : (n ≡ 0 → ⊥) → answers (Refused n) before ≡ lineStep g flushes store d arg before
-    unfolding lineStep
-    line-refused z = rw (← number) (decided-no (useLine g (lineWork flushes (ruleOf (g .rule) (g .ways)) store) d arg before) before z)
+  effect-is : workOf flushes store (g .rule) stored (tagOf g arg) (rowAt (g .ways) (setOf g arg) t) ≡ effect
+  unfolding effect rowEffect policies setOf
+  effect-is =
+      line-work g flushes store stored (tagOf g arg) (rowAt (g .ways) (setOf g arg) t) (h .limited .limits)
+      (row-long g h (setOf g arg) (mod-lt (arg / 64) (h .limited .some-set)))
 
-    effect : Effect
-    effect = rowEffect g (lineWork flushes (ruleOf (g .rule) (g .ways)) store) d arg before
+  pub line-done : {a : Answer} {u : Tables} {r : Stepped} → RowWork a u (workAt g flushes store stored arg t)
+      → r ≡ record { answer = a; domains = putDomain d (record { hit = own .hit; fill = own .fill; counts = counted a (own .counts) }) ds }
+      → outcome r u ≡ useLine g (lineWork flushes (ruleOf (g .rule) (g .ways)) store) d arg before
+  unfolding workAt onRow useLine onSet effect
+  line-done {a} {u} {r} e f =
+      ap (λ (x : Stepped). outcome x u) f ∙ (λ i. record {
+        answer = answerOf (answer-is i);
+        state = record {
+          tables = tables-is i;
+          domains = putDomain d (record { hit = own .hit; fill = own .fill; counts = counted (answer-is i) (own .counts) }) ds;
+        };
+      })
+    where
+      answer-is : a ≡ effect .answer
+      answer-is = ap (λ (w : Work). w .answer) e ∙ ap (λ (x : Effect). x .answer) effect-is
 
-    effect-is : workOf flushes store (g .rule) stored (tagOf g arg) (rowAt (g .ways) (setOf g arg) t) ≡ effect
-    unfolding effect rowEffect policies setOf
-    effect-is =
-        line-work g flushes store stored (tagOf g arg) (rowAt (g .ways) (setOf g arg) t) (h .limited .limits)
-        (row-long g h (setOf g arg) (mod-lt (arg / 64) (h .limited .some-set)))
-
-    pub line-done : {a : Answer} {u : Tables} {c : Counts} → n ≡ 0 → RowWork a u (workAt g flushes store stored arg t) → c ≡ counted a (own .counts)
-        → record { answer = answerOf a; state = record { tables = u; domains = record { records = set (ds .records) d (record { hit = own .hit; fill = own .fill; counts = c }) } } }
-        ≡ lineStep g flushes store d arg before
-    unfolding lineStep workAt onRow useLine onSet putDomain effect
-    line-done {a} {u} {c} z e f =
-        rw (← number)
-        ((λ i. record {
-          answer = answerOf (answer-is i);
-          state = record {
-            tables = tables-is i;
-            domains = record { records = set (ds .records) d (record { hit = own .hit; fill = own .fill; counts = counts-is i }) };
-          };
-        })
-        ∙ decided-yes (useLine g (lineWork flushes (ruleOf (g .rule) (g .ways)) store) d arg before) before z)
-      where
-        answer-is : a ≡ effect .answer
-        answer-is = ap (λ (w : Work). w .answer) e ∙ ap (λ (x : Effect). x .answer) effect-is
-
-        tables-is : u ≡ putRow (g .ways) (setOf g arg) (effect .row) t
-        tables-is = ap (λ (w : Work). w .tables) e ∙ ap (λ (x : Effect). putRow (g .ways) (setOf g arg) (x .row) t) effect-is
-
-        counts-is : c ≡ counted (effect .answer) (own .counts)
-        counts-is = f ∙ ap (λ (x : Answer). counted x (own .counts)) answer-is
+      tables-is : u ≡ putRow (g .ways) (setOf g arg) (effect .row) t
+      tables-is = ap (λ (w : Work). w .tables) e ∙ ap (λ (x : Effect). putRow (g .ways) (setOf g arg) (x .row) t) effect-is
 
 -- ---- a change of policy
 
-module _ (g : Geometry) (d arg : ℕ) (t : Tables) (ds : Domains) {n : ℕ} (q : n ≡ policyRefusal g (policies (g .ways) ds) d arg) where
-  abbrev found : State
-  found = record { tables = t; domains = ds }
-
-  pub policy-refused : (n ≡ 0 → ⊥) → answers (Refused n) found ≡ policyStep g d arg found
-  unfolding policyStep
-  policy-refused z = rw (← q) (decided-no (changePolicy g d arg found) found z)
-
-  pub policy-done : {u : Tables} {drops dirt : ℕ} {new : Maps} {c : Counts} → n ≡ 0 → new ≡ newMaps arg
-      → AllSwept g (record { hit = domainOf ds d .hit; fill = domainOf ds d .fill }) new (g .sets) t u drops dirt
-      → c ≡ cond (eqb arg 0) noCounts (domainOf ds d .counts)
-      → record { answer = answerOf (Policy drops dirt); state = record { tables = u; domains = record { records = set (ds .records) d (record { hit = new .hit; fill = new .fill; counts = c }) } } }
-      ≡ policyStep g d arg found
-  unfolding policyStep changePolicy newDomain putDomain policies
-  policy-done {u} {drops} {dirt} {new} {c} z m e f =
-      rw (← q)
-      (rw (e .tables-is, e .dropped-is, e .dirty-is, f, m) refl
-      ∙ decided-yes (changePolicy g d arg found) found z)
+pub policy-done : (g : Geometry) (d arg : ℕ) (t : Tables) (ds : Domains) {u : Tables} {old new : Maps} {drops : Drops} {r : Stepped}
+    → old ≡ record { hit = domainOf ds d .hit; fill = domainOf ds d .fill } → new ≡ newMaps arg
+    → AllSwept g old new (g .sets) t u (drops .dropped) (drops .dirty)
+    → r ≡ record { answer = Policy (drops .dropped) (drops .dirty); domains = putDomain d (newDomain arg (domainOf ds d)) ds }
+    → outcome r u ≡ changePolicy g d arg (record { tables = t; domains = ds })
+unfolding changePolicy policies
+policy-done g d arg t ds o m e f = rw (f, e .tables-is, e .dropped-is, e .dirty-is, o, m)
 
 -- ---- the step
 
--- what is asked for, by its place among the code's kinds
-pub asked-policy : (q : Asked) → variantOf the-type q ≡ 1 → policy ≡ kindIs q
-asked-policy (AskedIs.Line flushes store) e = absurd (omega arith)
-asked-policy AskedIs.Policy e = refl
-asked-policy AskedIs.Unknown e = absurd (omega arith)
+-- what is within the limits and of the right lengths is shaped
+pub shaped : (g : Geometry) (t : Tables) → within g ≡ true → sized g (lengths t) ≡ true → Shaped g t
+unfolding sized
+shaped g t w z =
+    let tags = eqb (length (t .tags)) (g .sets * g .ways) in
+    let valid = eqb (length (t .valid)) (g .sets) in
+    let dirty = eqb (length (t .dirty)) (g .sets) in
+    let words = eqb (length (t .words)) (g .sets) in
+    let three = and-left (tags && valid && dirty) words z in
+    let two = and-left (tags && valid) dirty three in
+    record {
+      limited = limited g w;
+      tags-long = eqb-true (length (t .tags)) (g .sets * g .ways) (and-left tags valid two);
+      valid-long = eqb-true (length (t .valid)) (g .sets) (and-right tags valid two);
+      dirty-long = eqb-true (length (t .dirty)) (g .sets) (and-right (tags && valid) dirty three);
+      words-long = eqb-true (length (t .words)) (g .sets) (and-right (tags && valid && dirty) words z);
+    }
 
-pub asked-unknown : (q : Asked) → variantOf the-type q ≡ 2 → unknown ≡ kindIs q
-asked-unknown (AskedIs.Line flushes store) e = absurd (omega arith)
-asked-unknown AskedIs.Policy e = absurd (omega arith)
-asked-unknown AskedIs.Unknown e = refl
+module _ (g : Geometry) (d kind arg : ℕ) (t : Tables) (ds : Domains) {n : ℕ}
+    (e : n ≡ refusal g (lengths t) (policies (g .ways) ds) (domainOf ds d .counts) d kind arg) where
+  abbrev found : State
+  found = record { tables = t; domains = ds }
 
--- what numbers 1, 2 and 3 let pass is shaped
-pub early-passed : (g : Geometry) (t : Tables) (d : ℕ) → earlyRefusal g (lengths t) d ≡ 0 → (Shaped g t) × (d < 16)
-unfolding earlyRefusal sized
-early-passed g t d e =
-    cases (within g)
-    (λ w. cases (sized g (lengths t))
-    (λ z. cases (leb 16 d)
-    (λ l. absurd (nonzero 2 (rw (w, z, l) at e)))
-    (λ l. (shaped w z, leb-false 16 d l)))
-    (λ z. absurd (nonzero 1 (rw (w, z) at e))))
-    (λ w. absurd (nonzero 0 (rw w at e)))
-  where
-    nonzero : (n : ℕ) → suc n ≡ 0 → ⊥
-    nonzero n q = omega arith
-
-    shaped : within g ≡ true → sized g (lengths t) ≡ true → Shaped g t
-    shaped w z =
-        let tags = eqb (length (t .tags)) (g .sets * g .ways) in
-        let valid = eqb (length (t .valid)) (g .sets) in
-        let dirty = eqb (length (t .dirty)) (g .sets) in
-        let words = eqb (length (t .words)) (g .sets) in
-        let three = and-left (tags && valid && dirty) words z in
-        let two = and-left (tags && valid) dirty three in
-        record {
-          limited = limited g w;
-          tags-long = eqb-true (length (t .tags)) (g .sets * g .ways) (and-left tags valid two);
-          valid-long = eqb-true (length (t .valid)) (g .sets) (and-right tags valid two);
-          dirty-long = eqb-true (length (t .dirty)) (g .sets) (and-right (tags && valid) dirty three);
-          words-long = eqb-true (length (t .words)) (g .sets) (and-right (tags && valid && dirty) words z);
-        }
-
-module _ (g : Geometry) (d kind arg : ℕ) (s : State) where
-  -- the verdict is the early one, or that of the kind
-  verdict : refusal g (lengths (s .tables)) (policies (g .ways) (s .domains)) (domainOf (s .domains) d .counts) d kind arg
-      ≡ cond (eqb (earlyRefusal g (lengths (s .tables)) d) 0)
-      (refusalBy (kindOf kind) g (policies (g .ways) (s .domains)) (domainOf (s .domains) d .counts) d arg)
-      (earlyRefusal g (lengths (s .tables)) d)
-  unfolding refusal earlyRefusal
-  verdict =
-      cases (within g)
-      (λ w. cases (sized g (lengths (s .tables)))
-      (λ z. cases (leb 16 d) (λ l. rw (w, z, l)) (λ l. rw (w, z, l)))
-      (λ z. rw (w, z)))
-      (λ w. rw w)
-
-  pub step-early : {n : ℕ} → n ≡ earlyRefusal g (lengths (s .tables)) d → (n ≡ 0 → ⊥) → answers (Refused n) s ≡ step g d kind arg s
+  pub step-refused : {r : Stepped} → (n ≡ 0 → ⊥) → r ≡ record { answer = Refused n; domains = ds } → outcome r t ≡ step g d kind arg found
   unfolding step
-  step-early {n} e z =
-      rw (verdict, ← e, ne-eqb n 0 z) (decided-no (stepBy (kindOf kind) g d arg s) s z)
+  step-refused z f = ap (λ (x : Stepped). outcome x t) f ∙ rw (← e) (decided-no (stepBy (kindOf kind) g d arg found) found z)
 
-  module _ (passed : earlyRefusal g (lengths (s .tables)) d ≡ 0) where
-    pub step-line : (flushes store : Bool) → kindIs (AskedIs.Line flushes store) ≡ kindOf kind → lineStep g flushes store d arg s ≡ step g d kind arg s
-    unfolding step lineStep refusalBy stepBy
-    step-line true store k = rw (verdict, passed, ← k)
-    step-line false store k = rw (verdict, passed, ← k)
+  module _ (z : n ≡ 0) where
+    -- what the verdict says of a step that it lets pass
+    passed : Stands g (lengths t) (policies (g .ways) ds) (domainOf ds d .counts) d kind arg
+    passed = stands g (lengths t) (policies (g .ways) ds) (domainOf ds d .counts) d kind arg e z
 
-    pub step-policy : policy ≡ kindOf kind → policyStep g d arg s ≡ step g d kind arg s
-    unfolding step policyStep refusalBy stepBy
-    step-policy k = rw (verdict, passed, ← k)
+    pub is-shaped : Shaped g t
+    is-shaped = shaped g t (passed .within-is) (passed .sized-is)
 
-    pub step-unknown : unknown ≡ kindOf kind → answers (Refused 4) s ≡ step g d kind arg s
-    unfolding step decided refusalBy stepBy
-    step-unknown k = rw (verdict, passed, ← k)
+    pub is-domain : d < 16
+    is-domain = passed .domain-lt
+
+    pub has-room : (flushes store : Bool) → kindIs (AskedIs.Line flushes store) ≡ kindOf kind → isFull (domainOf ds d .counts) ≡ false
+    unfolding refusalBy
+    has-room true store k = not-full (policies (g .ways) ds d) (domainOf ds d .counts) (rw (← k) at (passed .kind-is))
+    has-room false store k = not-full (policies (g .ways) ds d) (domainOf ds d .counts) (rw (← k) at (passed .kind-is))
+
+    -- the step is then the work of its kind
+    done : stepBy (kindOf kind) g d arg found ≡ step g d kind arg found
+    unfolding step
+    done = rw (← e) (decided-yes (stepBy (kindOf kind) g d arg found) found z)
+
+    line-is : (flushes store : Bool) → kindIs (AskedIs.Line flushes store) ≡ kindOf kind
+        → useLine g (lineWork flushes (ruleOf (g .rule) (g .ways)) store) d arg found ≡ step g d kind arg found
+    unfolding stepBy
+    line-is true store k = ap (λ (x : Kind). stepBy x g d arg found) k ∙ done
+    line-is false store k = ap (λ (x : Kind). stepBy x g d arg found) k ∙ done
+
+    pub step-line : (flushes store : Bool) {maps : Maps} {a : Answer} {u : Tables} {r : Stepped} → kindIs (AskedIs.Line flushes store) ≡ kindOf kind
+        → maps ≡ record { hit = domainOf ds d .hit; fill = domainOf ds d .fill } → RowWork a u (workAt g flushes store maps arg t)
+        → r ≡ record { answer = a; domains = putDomain d (record { hit = domainOf ds d .hit; fill = domainOf ds d .fill; counts = counted a (domainOf ds d .counts) }) ds }
+        → outcome r u ≡ step g d kind arg found
+    step-line flushes store {maps} k m w f =
+        line-done g d flushes store arg t ds is-shaped (w ∙ ap (λ (x : Maps). workAt g flushes store x arg t) m) f ∙ line-is flushes store k
+
+    pub step-policy : {u : Tables} {old new : Maps} {drops : Drops} {r : Stepped} → policy ≡ kindOf kind
+        → old ≡ record { hit = domainOf ds d .hit; fill = domainOf ds d .fill } → new ≡ newMaps arg
+        → AllSwept g old new (g .sets) t u (drops .dropped) (drops .dirty)
+        → r ≡ record { answer = Policy (drops .dropped) (drops .dirty); domains = putDomain d (newDomain arg (domainOf ds d)) ds }
+        → outcome r u ≡ step g d kind arg found
+    unfolding stepBy
+    step-policy k o m e f = policy-done g d arg t ds o m e f ∙ ap (λ (x : Kind). stepBy x g d arg found) k ∙ done
+
+    pub step-unknown : {r : Stepped} → unknown ≡ kindOf kind → r ≡ record { answer = Refused 4; domains = ds } → outcome r t ≡ step g d kind arg found
+    unfolding stepBy
+    step-unknown k f = ap (λ (x : Stepped). outcome x t) f ∙ ap (λ (x : Kind). stepBy x g d arg found) k ∙ done

@@ -21,9 +21,9 @@ use Rattle.row.specs.Calls.{cleanOf}
 use Rattle.row.specs.declared.Maps.{Maps}
 use Rattle.row.specs.declared.Answer.{Answer}
 use Rattle.row.specs.declared.Answer.the-variants.{Hit, Fill, Evict, Pass, Flush, Absent, Policy, Refused}
+use Rattle.verdict.specs.declared.Geometry.{Geometry}
 use Rattle.cache.specs.Tables.{Tables, rowAt, putRow, eachSet, total}
 use Rattle.cache.specs.Inside.{Shaped, Work, RowWork, onRow, dropsIn, Swept, AllSwept}
-use Rattle.cache.specs.declared.Geometry.{Geometry}
 use Rattle.cache.specs.declared.sets.Drops.{Drops}
 use Rattle.cache.proofs.SetLaws.{row-long, put-shaped, each-shaped, each-later, total-le}
 

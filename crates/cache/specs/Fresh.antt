@@ -3,12 +3,12 @@ use mathlib.Core.Bool.{cond, not}
 use Prim.Native.Nat.{ℕ, _*_}
 use lib.ListN.{replicate}
 use Rattle.replacement.specs.Rule.{Rule, ruleOf}
-use Rattle.cache.specs.Geometry.{within}
-use Rattle.cache.specs.Tables.{Tables, lengths, sized}
-use Rattle.cache.specs.Domains.{maxDomains, noDomain}
+use Rattle.verdict.specs.Geometry.{within, sized}
+use Rattle.verdict.specs.Domains.{maxDomains, noDomain}
+use Rattle.verdict.specs.declared.Geometry.{Geometry}
+use Rattle.verdict.specs.declared.Domains.{Domains}
+use Rattle.cache.specs.Tables.{Tables, lengths}
 use Rattle.cache.specs.Step.{State}
-use Rattle.cache.specs.declared.Geometry.{Geometry}
-use Rattle.cache.specs.declared.Domains.{Domains}
 
 unfoldable pub freshTables : Geometry → Tables
 freshTables g = record {

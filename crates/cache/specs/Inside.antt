@@ -1,10 +1,8 @@
 -- What the crate's inner functions go by: they are called within the limits, on tables of their lengths.
 use mathlib.Core.Path.{_≡_}
-use mathlib.Core.Bool.{Bool, true, false, cond, not}
+use mathlib.Core.Bool.{Bool, true, false, cond}
 use Prim.Native.Nat.{ℕ, _+_, _*_, _≤_, _<_}
-use lib.Dec.{leb}
 use lib.ListN.{length}
-use Rattle.replacement.specs.Calls.{inLimits}
 use Rattle.replacement.specs.Rule.{Rule, ruleOf}
 use Rattle.row.specs.Row.{Row, Effect, asRead, dropped, droppedDirty, cleaned}
 use Rattle.row.specs.Row as Row
@@ -12,24 +10,12 @@ use Rattle.row.specs.Calls.{accessOf, flushOf}
 use Rattle.row.specs.declared.Maps.{Maps}
 use Rattle.row.specs.declared.Answer.{Answer}
 use Rattle.row.specs.declared.Answer.the-variants.{Hit, Fill, Evict, Pass, Flush, Absent, Policy, Refused}
-use Rattle.cache.specs.Geometry.{maxSets, within, setOf, tagOf}
-use Rattle.cache.specs.Tables.{Tables, Lengths, sized, rowAt, putRow, eachSet, total}
-use Rattle.cache.specs.Domains.{maxDomains, domainOf, policies}
-use Rattle.cache.specs.Refusal.{Kind, access, flush, policy, unknown, useRefusal, policyRefusal}
-use Rattle.cache.specs.Step.{State, Outcome, useLine, changePolicy, decided}
-use Rattle.cache.specs.declared.Geometry.{Geometry}
-use Rattle.cache.specs.declared.Asked.{Asked}
-use Rattle.cache.specs.declared.Asked.the-variants as AskedIs
+use Rattle.verdict.specs.Inside.{Limited}
+use Rattle.verdict.specs.declared.Geometry.{Geometry}
+use Rattle.cache.specs.Geometry.{setOf, tagOf}
+use Rattle.cache.specs.Tables.{Tables, rowAt, putRow, eachSet, total}
 use Rattle.cache.specs.declared.place.Place.{Place}
 use Rattle.cache.specs.declared.sets.Drops.{Drops}
-
--- A geometry within the limits.
-pub record Limited (g : Geometry) : Type 0 where
-  pub limits : inLimits (g .ways) (g .rule) ≡ true
-  pub some-set : 0 < g .sets
-  pub most-sets : g .sets ≤ maxSets
-  pub some-way : 0 < g .ways
-  pub most-ways : g .ways ≤ 16
 
 -- Tables of the right lengths under such a geometry.
 pub record Shaped (g : Geometry) (t : Tables) : Type 0 where
@@ -92,26 +78,7 @@ pub record AllSwept (g : Geometry) (old new : Maps) (n : ℕ) (before after : Ta
   pub dropped-is : drops ≡ total (g .ways) n (dropped (asRead (g .ways) old) (asRead (g .ways) new)) before
   pub dirty-is : dirt ≡ total (g .ways) n (droppedDirty (asRead (g .ways) old) (asRead (g .ways) new)) before
 
--- Numbers 1, 2 and 3, which go by the input alone; 0 for none.
-unfoldable pub earlyRefusal : Geometry → Lengths → ℕ → ℕ
-earlyRefusal g n d = cond (not (within g)) 1 (cond (not (sized g n)) 2 (cond (leb maxDomains d) 3 0))
-
--- What the code's kinds are among document 01's.
-abbrev pub kindIs : Asked → Kind
-kindIs (AskedIs.Line true store) = flush
-kindIs (AskedIs.Line false store) = access store
-kindIs AskedIs.Policy = policy
-kindIs AskedIs.Unknown = unknown
-
--- An access or a flush, with its refusals, and a change of policy with its own.
+-- An access or a flush, under a rule.
 abbrev pub lineWork : Bool → Rule → Bool → Maps → ℕ → Row → Effect
 lineWork true R store = Row.flush
 lineWork false R store = λ p tag. Row.access R p tag store
-
-unfoldable pub lineStep : Geometry → Bool → Bool → ℕ → ℕ → State → Outcome
-lineStep g flushes store d arg s =
-    decided (useRefusal (policies (g .ways) (s .domains) d) (domainOf (s .domains) d .counts))
-    (useLine g (lineWork flushes (ruleOf (g .rule) (g .ways)) store) d arg s) s
-
-unfoldable pub policyStep : Geometry → ℕ → ℕ → State → Outcome
-policyStep g d arg s = decided (policyRefusal g (policies (g .ways) (s .domains)) d arg) (changePolicy g d arg s) s

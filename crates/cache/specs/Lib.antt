@@ -1,8 +1,7 @@
--- The cache: document 01, from "Geometry and tables" to "When a step is turned down".
+-- The cache: document 01, "Geometry and tables" and "Steps".
 pub mod Geometry
 pub mod Tables
 pub mod Domains
-pub mod Refusal
 pub mod Step
 pub mod Run
 pub mod Fresh

@@ -1,8 +1,8 @@
 -- A run: steps one after another, "each later step gets those that the step before it left, turned down or not".
 use mathlib.Core.List.{List, [], _∷_}
 use Prim.Native.Nat.{ℕ}
+use Rattle.verdict.specs.declared.Geometry.{Geometry}
 use Rattle.cache.specs.Step.{State, Outcome, step}
-use Rattle.cache.specs.declared.Geometry.{Geometry}
 
 -- A step to take: the domain that it names, its kind and its argument, of any numbers.
 pub record Command : Type 0 where

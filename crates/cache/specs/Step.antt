@@ -10,14 +10,15 @@ use Rattle.row.specs.Row.{Row, Effect, asRead}
 use Rattle.row.specs.declared.Maps.{Maps}
 use Rattle.row.specs.declared.Answer.{Answer}
 use Rattle.row.specs.declared.Answer.the-variants.{Policy, Refused}
+use Rattle.verdict.specs.Domains.{noCounts, domainOf, policies}
+use Rattle.verdict.specs.Refusal.{Kind, access, flush, policy, unknown, kindOf, newMaps, refusal}
+use Rattle.verdict.specs.declared.Geometry.{Geometry}
+use Rattle.verdict.specs.declared.Counts.{Counts}
+use Rattle.verdict.specs.declared.Domain.{Domain}
+use Rattle.verdict.specs.declared.Domains.{Domains}
 use Rattle.cache.specs.Geometry.{setOf, tagOf}
 use Rattle.cache.specs.Tables.{Tables, lengths, rowAt, putRow, eachSet, total}
-use Rattle.cache.specs.Domains.{noCounts, domainOf, putDomain, policies, counted}
-use Rattle.cache.specs.Refusal.{Kind, access, flush, policy, unknown, kindOf, newMaps, refusal}
-use Rattle.cache.specs.declared.Geometry.{Geometry}
-use Rattle.cache.specs.declared.Counts.{Counts}
-use Rattle.cache.specs.declared.Domain.{Domain}
-use Rattle.cache.specs.declared.Domains.{Domains}
+use Rattle.cache.specs.Domains.{putDomain, counted}
 use Rattle.cache.specs.declared.Stepped.{Stepped}
 
 -- What a step finds and leaves.

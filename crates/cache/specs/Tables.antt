@@ -1,11 +1,9 @@
 -- The lent tables, and a set's row in them.
-use mathlib.Core.Bool.{Bool, _&&_}
 use mathlib.Core.List.{List, _++_}
 use Prim.Native.Nat.{ℕ, zero, suc, _+_, _*_}
-use lib.Dec.{eqb}
 use lib.ListN.{length, getD, take, drop, set}
 use Rattle.row.specs.Row.{Row}
-use Rattle.cache.specs.declared.Geometry.{Geometry}
+use Rattle.verdict.specs.Geometry.{Lengths}
 
 -- "tags, S × W words of 64 bits, the W tags of a set side by side; valid and dirty, one 16-bit map per set each; replacement, one 64-bit
 -- word per set."
@@ -15,19 +13,8 @@ pub record Tables : Type 0 where
   pub dirty : List ℕ
   pub words : List ℕ
 
--- How long the four tables are.
-pub record Lengths : Type 0 where
-  pub tags : ℕ
-  pub valid : ℕ
-  pub dirty : ℕ
-  pub words : ℕ
-
 abbrev pub lengths : Tables → Lengths
 lengths t = record { tags = length (t .tags); valid = length (t .valid); dirty = length (t .dirty); words = length (t .words) }
-
--- Each is exactly as long as above.
-unfoldable pub sized : Geometry → Lengths → Bool
-sized g n = eqb (n .tags) (g .sets * g .ways) && eqb (n .valid) (g .sets) && eqb (n .dirty) (g .sets) && eqb (n .words) (g .sets)
 
 -- The row of set s, where a set has W ways.
 unfoldable pub rowAt : ℕ → ℕ → Tables → Row

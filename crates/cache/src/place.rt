@@ -1,11 +1,9 @@
 // Where an address's line can be, and where a set's tags lie.
-use crate::Geometry;
+use verdict::Geometry;
 ghost use mathlib.Core.Path.{_≡_};
 ghost use Prim.Native.Nat.{_<_};
-ghost use Rattle.cache.specs.Geometry.{within as withinLimits};
-ghost use Rattle.cache.specs.Inside.{Limited, PlaceOf, RowOf};
-
-const MAX_SETS: usize = 256;
+ghost use Rattle.verdict.specs.Inside.{Limited};
+ghost use Rattle.cache.specs.Inside.{PlaceOf, RowOf};
 
 // An address's set, and its tag there.
 pub struct Place {
@@ -17,23 +15,6 @@ pub struct Place {
 pub struct Span {
     pub start: usize,
     pub stop: usize,
-}
-
-// Whether the geometry is within the limits.
-pub fn within(g: Geometry) -> bool
-    ensures { λ r. ⌜ r ≡ withinLimits g ⌝ }
-{
-    let sets = g.sets;
-    if sets == 0 {
-        return false;
-    }
-    if MAX_SETS < sets {
-        return false;
-    }
-    if sets & (sets - 1) != 0 {
-        return false;
-    }
-    replacement::in_limits(g.ways, g.rule)
 }
 
 pub fn place_of(g: Geometry, address: u64) -> Place

@@ -1,10 +1,10 @@
 // The work on the sets of the tables: a set's row is lent, and its maps and word are put back.
-use crate::Geometry;
 use crate::place;
 use row::Answer;
 use row::Done;
 use row::Lines;
 use row::Maps;
+use verdict::Geometry;
 ghost use mathlib.Core.Path.{_≡_};
 ghost use Prim.Native.Nat.{_<_};
 ghost use Rattle.row.specs.Calls.{rowOf, result};

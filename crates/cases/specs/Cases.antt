@@ -6,9 +6,9 @@ use lib.ListN.{getD}
 use Rattle.waymap.specs.Bits.{bit, word}
 use Rattle.replacement.specs.Tree as Tree
 use Rattle.replacement.specs.Rule.{Rule, tree, nru}
+use Rattle.verdict.specs.declared.Geometry.{Geometry}
 use Rattle.cache.specs.Run.{Command, answersOf}
 use Rattle.cache.specs.Fresh.{fresh}
-use Rattle.cache.specs.declared.Geometry.{Geometry}
 
 pub record Case : Type 0 where
   pub given : List ℕ

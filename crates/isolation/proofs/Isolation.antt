@@ -16,16 +16,17 @@ use Rattle.replacement.specs.Rule.{Rule, ruleOf}
 use Rattle.row.specs.Row.{Row, asRead}
 use Rattle.row.specs.declared.Maps.{Maps}
 use Rattle.row.proofs.LineLaws.{same-line}
-use Rattle.cache.specs.Geometry.{within}
+use Rattle.verdict.specs.Geometry.{within}
+use Rattle.verdict.specs.Domains.{noDomain, domainOf, policies}
+use Rattle.verdict.specs.Inside.{Limited}
+use Rattle.verdict.specs.declared.Geometry.{Geometry}
+use Rattle.verdict.specs.declared.Domain.{Domain}
+use Rattle.verdict.proofs.GeometryLaws.{limited}
 use Rattle.cache.specs.Tables.{rowAt}
-use Rattle.cache.specs.Domains.{noDomain, domainOf, policies}
 use Rattle.cache.specs.Step.{State, Outcome, step}
 use Rattle.cache.specs.Run.{Command, stepOn, answersOf, finally}
 use Rattle.cache.specs.Fresh.{freshTables, freshDomains, fresh}
-use Rattle.cache.specs.Inside.{Limited, Shaped}
-use Rattle.cache.specs.declared.Geometry.{Geometry}
-use Rattle.cache.specs.declared.Domain.{Domain}
-use Rattle.cache.proofs.GeometryLaws.{limited}
+use Rattle.cache.specs.Inside.{Shaped}
 use Rattle.isolation.specs.Purge.{belongs, keeps, purge}
 use Rattle.isolation.specs.StruckOut.{answersTo, ownAnswers, verdicts, SameTo, StruckOut}
 use Rattle.isolation.proofs.Relation.{Whole, Separate, Related, Alike}

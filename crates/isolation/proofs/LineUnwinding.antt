@@ -15,14 +15,16 @@ use Rattle.row.specs.Answer.{answerOf}
 use Rattle.row.specs.declared.Maps.{Maps}
 use Rattle.row.specs.declared.Answer.{Answer}
 use Rattle.row.proofs.LineLaws.{Cut, cut-read, access-long, flush-long}
+use Rattle.verdict.specs.Domains.{domainOf, policies}
+use Rattle.verdict.specs.Inside.{Limited}
+use Rattle.verdict.specs.declared.Geometry.{Geometry}
+use Rattle.verdict.specs.declared.Domain.{Domain}
+use Rattle.verdict.specs.declared.Domains.{Domains}
 use Rattle.cache.specs.Geometry.{setOf, tagOf}
 use Rattle.cache.specs.Tables.{Tables, rowAt, putRow}
-use Rattle.cache.specs.Domains.{domainOf, putDomain, policies, counted}
+use Rattle.cache.specs.Domains.{putDomain, counted}
 use Rattle.cache.specs.Step.{State, Outcome, onSet, rowEffect, useLine}
-use Rattle.cache.specs.Inside.{Limited, Shaped, lineWork}
-use Rattle.cache.specs.declared.Geometry.{Geometry}
-use Rattle.cache.specs.declared.Domain.{Domain}
-use Rattle.cache.specs.declared.Domains.{Domains}
+use Rattle.cache.specs.Inside.{Shaped, lineWork}
 use Rattle.cache.proofs.SetLaws.{row-long, put-shaped, row-put-same, row-put-other}
 use Rattle.cache.proofs.DomainLaws as DomainLaws
 use Rattle.isolation.proofs.Relation.{Whole, Separate, Unheld, Unwritten, Alike, Related}

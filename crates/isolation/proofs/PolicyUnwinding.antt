@@ -17,16 +17,18 @@ use Rattle.row.specs.Answer.{answerOf}
 use Rattle.row.specs.declared.Maps.{Maps}
 use Rattle.row.specs.declared.Answer.the-variants.{Policy}
 use Rattle.row.proofs.LineLaws.{Cut, clean-long}
+use Rattle.verdict.specs.Domains.{domainOf, policies}
+use Rattle.verdict.specs.Refusal.{newMaps, badArgument, sharesWay, sharesNode, policyRefusal}
+use Rattle.verdict.specs.Inside.{Limited}
+use Rattle.verdict.specs.declared.Geometry.{Geometry}
+use Rattle.verdict.specs.declared.Domain.{Domain}
+use Rattle.verdict.specs.declared.Domains.{Domains}
+use Rattle.verdict.proofs.RefusalLaws.{good-maps}
 use Rattle.cache.specs.Tables.{Tables, rowAt, eachSet, total}
-use Rattle.cache.specs.Domains.{domainOf, putDomain, policies}
-use Rattle.cache.specs.Refusal.{newMaps, badArgument, sharesWay, sharesNode, policyRefusal}
+use Rattle.cache.specs.Domains.{putDomain}
 use Rattle.cache.specs.Step.{State, Outcome, newDomain, changePolicy}
-use Rattle.cache.specs.Inside.{Limited, Shaped}
-use Rattle.cache.specs.declared.Geometry.{Geometry}
-use Rattle.cache.specs.declared.Domain.{Domain}
-use Rattle.cache.specs.declared.Domains.{Domains}
+use Rattle.cache.specs.Inside.{Shaped}
 use Rattle.cache.proofs.SetLaws.{row-long, each-shaped, each-row}
-use Rattle.cache.proofs.RefusalLaws.{good-maps}
 use Rattle.cache.proofs.DomainLaws as DomainLaws
 use Rattle.isolation.proofs.Relation.{Whole, Separate, Unheld, Unwritten, Alike, Related}
 use Rattle.isolation.proofs.RowUnwinding.{rule, clean-alike, own-drops}

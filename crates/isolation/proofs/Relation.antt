@@ -11,12 +11,12 @@ use Rattle.replacement.specs.Isolates.{Isolates, SameOwn, Apart}
 use Rattle.row.specs.Row.{Row}
 use Rattle.row.specs.View.{SameLine, SameView}
 use Rattle.row.specs.declared.Maps.{Maps}
+use Rattle.verdict.specs.Domains.{domainOf, policies}
+use Rattle.verdict.specs.declared.Geometry.{Geometry}
+use Rattle.verdict.specs.declared.Domains.{Domains}
 use Rattle.cache.specs.Tables.{Tables, rowAt}
-use Rattle.cache.specs.Domains.{domainOf, policies}
 use Rattle.cache.specs.Step.{State}
 use Rattle.cache.specs.Inside.{Shaped}
-use Rattle.cache.specs.declared.Geometry.{Geometry}
-use Rattle.cache.specs.declared.Domains.{Domains}
 
 -- Tables of their lengths and all sixteen domains.
 pub record Whole (g : Geometry) (s : State) : Type 0 where

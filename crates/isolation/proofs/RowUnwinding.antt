@@ -15,8 +15,8 @@ use Rattle.row.specs.Row.{Row, Effect, access, flush, moved, cleaned, dropped, 
 use Rattle.row.specs.View.{SameLine, SameView}
 use Rattle.row.specs.declared.Maps.{Maps}
 use Rattle.row.proofs.LineLaws.{Cut, line-trans, line-sym, access-leaves, access-stays, access-agrees, access-view, access-answer, flush-leaves, flush-word, flush-agrees, flush-answer, clean-gone, clean-agrees, drops-same, dirty-drops-same}
-use Rattle.cache.specs.Inside.{Limited}
-use Rattle.cache.specs.declared.Geometry.{Geometry}
+use Rattle.verdict.specs.Inside.{Limited}
+use Rattle.verdict.specs.declared.Geometry.{Geometry}
 use Rattle.isolation.proofs.Relation.{Separate, Unheld, Unwritten, Alike}
 
 -- a way that does not move and is not there afterwards was not there before; one that moves and was not there before is gained

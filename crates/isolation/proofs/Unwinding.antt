@@ -12,17 +12,18 @@ use Rattle.replacement.specs.Rule.{Rule, ruleOf}
 use Rattle.row.specs.Answer.{answerOf}
 use Rattle.row.specs.declared.Maps.{Maps}
 use Rattle.row.specs.declared.Answer.the-variants.{Refused}
-use Rattle.cache.specs.Geometry.{within}
-use Rattle.cache.specs.Tables.{Tables, Lengths, lengths, sized}
-use Rattle.cache.specs.Domains.{domainOf, policies}
-use Rattle.cache.specs.Refusal.{Kind, access, flush, policy, unknown, kindOf, useRefusal, policyRefusal, refusalBy, refusal}
+use Rattle.verdict.specs.Geometry.{within, Lengths, sized}
+use Rattle.verdict.specs.Domains.{domainOf, policies}
+use Rattle.verdict.specs.Refusal.{Kind, access, flush, policy, unknown, kindOf, useRefusal, policyRefusal, refusalBy, refusal}
+use Rattle.verdict.specs.Inside.{Limited}
+use Rattle.verdict.specs.declared.Geometry.{Geometry}
+use Rattle.verdict.specs.declared.Counts.{Counts}
+use Rattle.verdict.specs.declared.Domain.{Domain}
+use Rattle.verdict.proofs.GeometryLaws.{limited}
+use Rattle.cache.specs.Tables.{Tables, lengths}
 use Rattle.cache.specs.Step.{State, Outcome, answers, useLine, changePolicy, stepBy, decided, step}
 use Rattle.cache.specs.Run.{Command, stepOn}
-use Rattle.cache.specs.Inside.{Limited, Shaped, lineWork}
-use Rattle.cache.specs.declared.Geometry.{Geometry}
-use Rattle.cache.specs.declared.Counts.{Counts}
-use Rattle.cache.specs.declared.Domain.{Domain}
-use Rattle.cache.proofs.GeometryLaws.{limited}
+use Rattle.cache.specs.Inside.{Shaped, lineWork}
 use Rattle.isolation.specs.Purge.{belongs, keeps}
 use Rattle.isolation.specs.StruckOut.{numberOf}
 use Rattle.isolation.proofs.Relation.{Whole, Separate, Related}

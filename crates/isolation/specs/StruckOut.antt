@@ -6,12 +6,12 @@ use Prim.Native.Nat.{ℕ, _<_}
 use lib.Dec.{eqb}
 use Rattle.replacement.specs.Rule.{Rule, ruleOf}
 use Rattle.row.specs.View.{SameView}
+use Rattle.verdict.specs.Domains.{domainOf, policies}
+use Rattle.verdict.specs.declared.Geometry.{Geometry}
 use Rattle.cache.specs.Tables.{rowAt}
-use Rattle.cache.specs.Domains.{domainOf, policies}
 use Rattle.cache.specs.Step.{State}
 use Rattle.cache.specs.Run.{Command, answersOf, finally}
 use Rattle.cache.specs.Fresh.{fresh}
-use Rattle.cache.specs.declared.Geometry.{Geometry}
 use Rattle.isolation.specs.Purge.{belongs, purge}
 
 -- Of the answers of a run, those to the steps that pass a test.

@@ -14,9 +14,9 @@ use Rattle.row.specs.Row.{asRead}
 use Rattle.row.specs.declared.Maps.{Maps}
 use Rattle.row.specs.declared.Answer.{Answer}
 use Rattle.row.specs.declared.Answer.the-variants.{Hit, Fill, Evict, Pass, Flush, Absent, Policy, Refused}
-use Rattle.cache.specs.Domains.{domainOf}
-use Rattle.cache.specs.declared.Domain.{Domain}
-use Rattle.cache.specs.declared.Domains.{Domains}
+use Rattle.verdict.specs.Domains.{domainOf}
+use Rattle.verdict.specs.declared.Domain.{Domain}
+use Rattle.verdict.specs.declared.Domains.{Domains}
 use Rattle.trace.specs.Listing.{decimal, line, domainLine, domainPart, domainLines}
 use Rattle.trace.specs.Inside.{Written, writtenOf, append}
 use Rattle.trace.proofs.TextLaws.{append-append, append-none, piece-long}

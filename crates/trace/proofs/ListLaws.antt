@@ -10,14 +10,14 @@ use lib.Seq.{sets, sets-eq, length-take-le}
 use borrow.Author.Tests.{eq-eqb, ne-eqb}
 use borrow.Rule.Slice.PartMut.{postOf, post-is}
 use Rattle.io.specs.Counts.{Counts}
-use Rattle.cache.specs.Geometry.{within}
-use Rattle.cache.specs.Tables.{Tables, Lengths, lengths, sized}
+use Rattle.verdict.specs.Geometry.{within, Lengths, sized}
+use Rattle.verdict.specs.Inside.{Limited}
+use Rattle.verdict.specs.declared.Geometry.{Geometry}
+use Rattle.verdict.proofs.GeometryLaws.{limited, rows-bound}
+use Rattle.cache.specs.Tables.{Tables, lengths}
 use Rattle.cache.specs.Step.{State, tablesOf}
 use Rattle.cache.specs.Run.{finally}
 use Rattle.cache.specs.Fresh.{fresh}
-use Rattle.cache.specs.Inside.{Limited}
-use Rattle.cache.specs.declared.Geometry.{Geometry}
-use Rattle.cache.proofs.GeometryLaws.{limited, rows-bound}
 use Rattle.tracefile.specs.File.{geometryOf, stepCount, stepsOf, fileRefusal}
 use Rattle.trace.specs.Listing.{refusedLine, runLines, listing}
 use Rattle.trace.specs.Calls.{Listed, listedOf, onto, ontoTables, lastTables, listOf}

@@ -5,14 +5,14 @@ use mathlib.Core.List.{List, [], _∷_, _++_}
 use Prim.Native.Nat.{ℕ, zero, suc, _+_, _-_, _*_, _≤_, _<_}
 use native.Mathlib.Omega.{arith}
 use lib.ListN.{length}
+use Rattle.verdict.specs.Geometry.{within, Lengths, sized}
+use Rattle.verdict.specs.Domains.{maxDomains}
+use Rattle.verdict.specs.declared.Domains.{Domains}
+use Rattle.verdict.specs.declared.Geometry.{Geometry}
 use Rattle.cache.specs.Run.{Command, stepOn, answersOf, finally}
 use Rattle.cache.specs.Step.{State, Outcome}
-use Rattle.cache.specs.Geometry.{within}
-use Rattle.cache.specs.Tables.{Tables, Lengths, lengths, sized}
-use Rattle.cache.specs.Domains.{maxDomains}
+use Rattle.cache.specs.Tables.{Tables, lengths}
 use Rattle.cache.specs.Fresh.{freshTables, freshDomains, fresh, Made, madeOf, freshOf}
-use Rattle.cache.specs.declared.Domains.{Domains}
-use Rattle.cache.specs.declared.Geometry.{Geometry}
 use Rattle.tracefile.specs.File.{commandAt, lastSteps}
 use Rattle.trace.specs.Listing.{decimal, line, told, answerLines, headLine, domainLines, runLines}
 use Rattle.trace.specs.Inside.{Written, writtenOf, append, RunTo, runTo, listedBy, listingBy}

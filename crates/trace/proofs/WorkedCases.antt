@@ -7,15 +7,17 @@ use Rattle.waymap.specs.Bits.{bit, word, any, lowest, count, put, reaches}
 use Rattle.replacement.specs.Tree as Tree
 use Rattle.replacement.specs.Calls.{isWays, inLimits}
 use Rattle.row.specs.Row as Row
-use Rattle.cache.specs.Geometry.{isPower, within, setOf, tagOf}
-use Rattle.cache.specs.Tables.{sized, rowAt, putRow, eachSet, total}
-use Rattle.cache.specs.Domains.{domainOf, putDomain, policies, isFull, counted}
-use Rattle.cache.specs.Refusal.{kindOf, newMaps, badArgument, sharesWay, sharesNode, useRefusal, policyRefusal, refusalBy, refusal}
+use Rattle.verdict.specs.Geometry.{isPower, within, sized}
+use Rattle.verdict.specs.Domains.{domainOf, policies, isFull}
+use Rattle.verdict.specs.Refusal.{kindOf, newMaps, badArgument, sharesWay, sharesNode, useRefusal, policyRefusal, refusalBy, refusal}
+use Rattle.verdict.specs.declared.Geometry.{Geometry}
+use Rattle.verdict.specs.declared.Counts.{Counts}
+use Rattle.cache.specs.Geometry.{setOf, tagOf}
+use Rattle.cache.specs.Tables.{rowAt, putRow, eachSet, total}
+use Rattle.cache.specs.Domains.{putDomain, counted}
 use Rattle.cache.specs.Step.{State, onSet, rowEffect, useLine, newDomain, changePolicy, stepBy, decided, step}
 use Rattle.cache.specs.Run.{Command, answersOf, finally}
 use Rattle.cache.specs.Fresh.{freshTables, freshDomains, fresh}
-use Rattle.cache.specs.declared.Geometry.{Geometry}
-use Rattle.cache.specs.declared.Counts.{Counts}
 use Rattle.isolation.specs.Calls.{commandOf}
 use Rattle.tracefile.specs.File.{value, field, lastSteps, badFile, fileRefusal}
 use Rattle.trace.specs.Listing.{decimalBy, line, told, answerLines, domainLine, domainPart, domainLines, runLines, listing}

@@ -5,11 +5,11 @@ use Prim.Native.Nat.{ℕ, _+_, _≤_}
 use lib.Dec.{ltb}
 use lib.ListN.{length}
 use lib.Seq.{sets}
+use Rattle.verdict.specs.declared.Geometry.{Geometry}
 use Rattle.cache.specs.Run.{answersOf, finally}
 use Rattle.cache.specs.Fresh.{fresh}
 use Rattle.cache.specs.Tables.{Tables}
 use Rattle.cache.specs.Step.{State}
-use Rattle.cache.specs.declared.Geometry.{Geometry}
 use Rattle.tracefile.specs.File.{lastSteps}
 use Rattle.trace.specs.Listing.{answerLines, runLines}
 use Rattle.trace.specs.declared.Ran.{Ran}

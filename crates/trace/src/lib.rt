@@ -2,16 +2,16 @@
 mod lines;
 mod text;
 
-use cache::Domains;
-use cache::Geometry;
+use verdict::Domains;
+use verdict::Geometry;
 ghost use mathlib.Core.Path.{_≡_};
 ghost use mathlib.Core.Bool.{true};
 ghost use Prim.Native.Nat.{_+_, _*_, _≤_};
 ghost use lib.ListN.{length};
 ghost use Rattle.io.specs.Counts.{Counts};
+ghost use Rattle.verdict.specs.Geometry.{within, sized};
 ghost use Rattle.cache.specs.Step.{tablesOf};
-ghost use Rattle.cache.specs.Geometry.{within};
-ghost use Rattle.cache.specs.Tables.{lengths, sized};
+ghost use Rattle.cache.specs.Tables.{lengths};
 ghost use Rattle.tracefile.specs.File.{fileRefusal};
 ghost use Rattle.trace.specs.Calls.{listedOf, listOf};
 ghost use Rattle.trace.specs.Inside.{writtenOf, ranOf, runTo, listedBy, listingBy, Roomy};

@@ -1,11 +1,11 @@
 // The lines of a listing.
 use crate::text;
-use cache::Counts;
-use cache::Domain;
-use cache::Domains;
-use cache::Geometry;
 use row::Answer;
 use row::Maps;
+use verdict::Counts;
+use verdict::Domain;
+use verdict::Domains;
+use verdict::Geometry;
 ghost use mathlib.Core.Path.{_≡_};
 ghost use mathlib.Core.List.{[], _∷_, map};
 ghost use Prim.Native.Nat.{_+_, _*_, _≤_, _<_};

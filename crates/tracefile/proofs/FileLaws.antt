@@ -10,7 +10,7 @@ use lib.ListN.{length, take, drop, getD, List·getD-eq-default}
 use lib.Seq.{take-nil, drop-nil}
 use borrow.Author.Tests.{ltb-false, eqb-true, lt-ltb, le-ltb, eq-eqb, ne-eqb}
 use Rattle.waymap.proofs.Booleans.{cases}
-use Rattle.cache.specs.Geometry.{within}
+use Rattle.verdict.specs.Geometry.{within}
 use Rattle.tracefile.specs.File.{value, field, geometryOf, stepCount, maxSteps, badFile, fileRefusal}
 
 -- ---- a field

@@ -4,9 +4,9 @@ use mathlib.Core.List.{List, [], _∷_}
 use Prim.Native.Nat.{ℕ, zero, suc, _+_, _*_}
 use lib.Dec.{eqb, ltb}
 use lib.ListN.{length, take, drop}
-use Rattle.cache.specs.Geometry.{within}
+use Rattle.verdict.specs.Geometry.{within}
+use Rattle.verdict.specs.declared.Geometry.{Geometry}
 use Rattle.cache.specs.Run.{Command}
-use Rattle.cache.specs.declared.Geometry.{Geometry}
 use Rattle.isolation.specs.Calls.{commandOf}
 use Rattle.tracefile.specs.declared.Command.{Command as Given}
 

@@ -1,5 +1,5 @@
 // What a trace file says, for bytes of any content and number.
-use cache::Geometry;
+use verdict::Geometry;
 ghost use mathlib.Core.Path.{_≡_};
 ghost use Prim.Native.Nat.{_+_, _*_, _^_, _≤_, _<_};
 ghost use lib.ListN.{getD};
@@ -96,7 +96,7 @@ pub fn refusal(file: &[u8]) -> usize
     if MAX_STEPS < n {
         return 10;
     }
-    if cache::within(geometry(file)) {
+    if verdict::within(geometry(file)) {
         return 0;
     }
     1

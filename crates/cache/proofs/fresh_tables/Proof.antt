@@ -1,19 +1,15 @@
 -- `cache::fresh_tables` meets its contract.
-use borrow.Author.Needs.{needs}
-use mathlib.Core.Path.{sym, _∙_}
 use Rattle.cache.specs.Step.{tablesOf}
-use Rattle.cache.proofs.StepLaws.{early-passed}
 use Rattle.cache.proofs.FillLaws.{fresh-refused, fresh-made}
+use borrow.Author.Needs.{needs}
 use Rattle.cache.proofs.fresh_tables.Statement.{statement}
 use Rattle.cache.proofs.fresh_tables.Tie as tie
 
-early-requires : tie.Need-early-requires
-early-requires c κs = search needs
+sizes-requires : tie.Need-sizes-requires
+sizes-requires c κs = search needs
 
 returns : tie.Need-returns
-returns c =
-    let a = c .before .before .before .before .before .before .args in
-    fresh-refused (a .g) (tablesOf (a .tags .now) (a .valid .now) (a .dirty .now) (a .words .now)) (c .before .early .ensures) (c .if1 .taken)
+returns c = let a = (c .before .before .before .before .before .before .args) in fresh-refused (a .g) (tablesOf (a .tags .now) (a .valid .now) (a .dirty .now) (a .words .now)) (c .before .sizes .ensures) (c .if1 .taken)
 
 fresh-requires : tie.Need-fresh-requires
 fresh-requires c κs = search needs
@@ -43,17 +39,13 @@ same-length-4 : tie.Need-same-length-4
 same-length-4 c = search needs
 
 returns-2 : tie.Need-returns-2
-returns-2 c =
-    let a = c .before .before .before .before .before .before .before .before .before .before .before .before .before .before .before .before .before .before .before .before .before .before .before .args in
-    let passed = (sym (c .before .before .before .before .before .before .before .before .before .before .before .before .before .before .before .before .before .before .early .ensures) ∙ c .before .before .before .before .before .before .before .before .before .before .before .before .before .before .before .before .before .if1 .left) in
-    fresh-made (a .g) (tablesOf (a .tags .now) (a .valid .now) (a .dirty .now) (a .words .now)) (c .before .before .before .before .before .before .before .before .before .before .before .before .before .before .before .before .fresh .result) passed (early-passed (a .g) (tablesOf (a .tags .now) (a .valid .now) (a .dirty .now) (a .words .now)) 0 passed .0)
-    (c .before .before .before .before .before .before .before .before .before .before .before .before .before .before .before .before .fresh .ensures) (c .before .before .before .before .before .before .before .before .before .before .before .before .before .before .fill-words .ensures) (c .before .before .before .before .before .before .before .before .before .before .clear-maps .ensures) (c .before .before .before .before .before .before .clear-maps2 .ensures) (c .before .before .fill-words2 .ensures)
+returns-2 c = let a = (c .before .before .before .before .before .before .before .before .before .before .before .before .before .before .before .before .before .before .before .before .before .before .before .args) in fresh-made (a .g) (tablesOf (a .tags .now) (a .valid .now) (a .dirty .now) (a .words .now)) (c .before .before .before .before .before .before .before .before .before .before .before .before .before .before .before .before .fresh .result) (c .before .before .before .before .before .before .before .before .before .before .before .before .before .before .before .before .before .before .sizes .ensures) (c .before .before .before .before .before .before .before .before .before .before .before .before .before .before .before .before .before .if1 .left) (c .before .before .before .before .before .before .before .before .before .before .before .before .before .before .before .before .fresh .ensures) (c .before .before .before .before .before .before .before .before .before .before .before .before .before .before .fill-words .ensures) (c .before .before .before .before .before .before .before .before .before .before .clear-maps .ensures) (c .before .before .before .before .before .before .clear-maps2 .ensures) (c .before .before .fill-words2 .ensures)
 
 pub fresh-tables-spec : {M : Type 1} → statement M
 fresh-tables-spec =
     tie.close
     (tie.spec
-    early-requires
+    sizes-requires
     returns
     fresh-requires
     fill-words-requires

@@ -2,9 +2,9 @@
 use native.Mathlib.Omega.{arith}
 use mathlib.Core.Path.{_≡_, sym, ap, ap₂, _∙_}
 use Prim.Native.Nat.{ℕ, _*_}
-use Rattle.cache.specs.Geometry.{within}
+use Rattle.verdict.specs.Geometry.{within}
+use Rattle.verdict.specs.declared.Geometry.{Geometry}
 use Rattle.cache.specs.Step.{tablesOf}
-use Rattle.cache.specs.declared.Geometry.{Geometry}
 use Rattle.tracefile.proofs.FileLaws.{accepted}
 use Rattle.trace.specs.Calls.{listedOf}
 use Rattle.trace.specs.Inside.{listingBy}

@@ -3,8 +3,8 @@ use borrow.Author.Needs.{needs}
 use mathlib.Core.Path.{_≡_, ap}
 use Prim.Native.Nat.{_-_}
 use native.Mathlib.Omega.{arith}
+use Rattle.verdict.specs.Geometry.{Lengths}
 use Rattle.cache.specs.Step.{tablesOf, outcome}
-use Rattle.cache.specs.Tables.{Lengths}
 use Rattle.tracefile.specs.File.{commandIs}
 use Rattle.trace.proofs.RunLaws.{Running, run-begin, run-turned, run-end}
 use Rattle.trace.proofs.run.Statement.{statement}

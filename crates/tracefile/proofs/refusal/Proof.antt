@@ -2,7 +2,7 @@
 use mathlib.Core.Path.{sym, ap, _∙_}
 use mathlib.Core.Bool.{Bool, cond, not}
 use Prim.Native.Nat.{ℕ}
-use Rattle.cache.specs.Geometry.{within}
+use Rattle.verdict.specs.Geometry.{within}
 use Rattle.tracefile.proofs.FileLaws.{bad-short, bad-length, bad-steps, good-file}
 use borrow.Author.Needs.{needs}
 use Rattle.tracefile.proofs.refusal.Statement.{statement}

@@ -1,6 +1,6 @@
 -- `cache::place::place_of` meets its contract.
 use borrow.Author.Needs.{needs}
-use Rattle.cache.proofs.GeometryLaws.{place-is}
+use Rattle.cache.proofs.PlaceLaws.{place-is}
 use Rattle.cache.proofs.place.place_of.Statement.{statement}
 use Rattle.cache.proofs.place.place_of.Tie as tie
 

@@ -1,6 +1,7 @@
 -- `cache::place::span_of` meets its contract.
 use native.Mathlib.Omega.{arith}
-use Rattle.cache.proofs.GeometryLaws.{row-within, rows-bound, span-is}
+use Rattle.verdict.proofs.GeometryLaws.{rows-bound}
+use Rattle.cache.proofs.PlaceLaws.{row-within, span-is}
 use Rattle.cache.proofs.place.span_of.Statement.{statement}
 use Rattle.cache.proofs.place.span_of.Tie as tie
 
