@@ -18,7 +18,7 @@ use Rattle.row.specs.declared.Answer.the-variants.{Policy, Refused}
 use Rattle.verdict.specs.Geometry.{within, sized}
 use Rattle.verdict.specs.Domains.{noCounts, domainOf, policies, isFull}
 use Rattle.verdict.specs.Refusal.{Kind, policy, unknown, kindOf, newMaps, refusalBy, refusal}
-use Rattle.verdict.specs.Inside.{kindIs}
+use Rattle.verdict.specs.Calls.{kindIs}
 use Rattle.verdict.specs.declared.Geometry.{Geometry}
 use Rattle.verdict.specs.declared.Asked.the-variants as AskedIs
 use Rattle.verdict.specs.declared.Counts.{Counts}

@@ -28,8 +28,7 @@ use Rattle.row.proofs.ReadLaws.{fill-below}
 use Rattle.verdict.specs.Geometry.{within, Lengths, sized}
 use Rattle.verdict.specs.Domains.{policies, domainOf, isFull}
 use Rattle.verdict.specs.Refusal.{Kind, access, flush, policy, unknown, kindOf, newMaps, badArgument, useRefusal, policyRefusal, refusalBy, refusal}
-use Rattle.verdict.specs.Calls.{sizesOf}
-use Rattle.verdict.specs.Inside.{kindIs}
+use Rattle.verdict.specs.Calls.{sizesOf, kindIs}
 use Rattle.verdict.specs.declared.Geometry.{Geometry}
 use Rattle.verdict.specs.declared.Counts.{Counts}
 use Rattle.verdict.specs.declared.Domains.{Domains}

@@ -7,8 +7,7 @@ pub use reasons::new_maps;
 ghost use mathlib.Core.Path.{_≡_};
 ghost use Rattle.verdict.specs.Domains.{domainOf, policies};
 ghost use Rattle.verdict.specs.Refusal.{kindOf, refusal as refusalOf};
-ghost use Rattle.verdict.specs.Calls.{sizesOf};
-ghost use Rattle.verdict.specs.Inside.{kindIs};
+ghost use Rattle.verdict.specs.Calls.{sizesOf, kindIs};
 
 // The numbers of sets and ways, and the replacement rule.
 pub struct Geometry {

@@ -1,6 +1,6 @@
 -- `cache::step` meets its contract.
 use mathlib.Core.Path.{sym, ap, _∙_}
-use Rattle.verdict.specs.Inside.{kindIs}
+use Rattle.verdict.specs.Calls.{kindIs}
 use Rattle.verdict.proofs.RefusalLaws.{asked-policy, asked-unknown}
 use Rattle.cache.specs.Step.{tablesOf}
 use Rattle.cache.proofs.StepLaws.{step-refused, is-shaped, is-domain, has-room, step-line, step-policy, step-unknown}
