@@ -54,7 +54,7 @@ cases u =
     -- E: "with node 4 set, way 3"
     ∷ record { given = tree 8 .victim 12 16 ∷ []; printed = 3 ∷ [] }
     -- F: "maps 5 and 10 share free node 1: refused 9"
-    ∷ record { given = answered 8 (takes 0 5 ∷ takes 1 10 ∷ []) 1; printed = 7 ∷ 9 ∷ [] }
+    ∷ record { given = freeNodes 5 ∷ freeNodes 10 ∷ answered 8 (takes 0 5 ∷ takes 1 10 ∷ []) 1; printed = 2 ∷ 2 ∷ 7 ∷ 9 ∷ [] }
     -- G: "maps 3 and 12 are accepted"
     ∷ record { given = answered 8 (takes 0 3 ∷ takes 1 12 ∷ []) 1; printed = 6 ∷ 0 ∷ 0 ∷ [] }
     -- H: "map 1 has no free node"

@@ -8,6 +8,7 @@ use native.Mathlib.Numerals.{add-one}
 use native.Mathlib.Omega.{arith}
 use lib.Dec.{eqb, leb, ltb}
 use lib.ListN.{length, drop, set, getD, length-map, length-append, length-drop, drop-of-length-le}
+use lib.Seq.{drop-cons}
 use borrow.Author.Tests.{leb-true, leb-false, lt-ltb, le-ltb, eq-eqb, ne-eqb}
 use Rattle.waymap.proofs.Booleans.{cases}
 use Rattle.cache.specs.Run.{Command}
@@ -46,14 +47,9 @@ module _ {A : Type 0} where
   store-next (a ∷ xs) [] x h = absurd (not-suc-le-zero h)
   store-next (a ∷ xs) (y ∷ ys) x h = ap (λ (l : List A). a ∷ l) (store-next xs ys x (le-of-suc-le-suc h))
 
-  drop-suc : (i : ℕ) (xs : List A) (z : A) → i < length xs → drop i xs ≡ getD xs i z ∷ drop (suc i) xs
-  drop-suc i [] z h = absurd (not-suc-le-zero h)
-  drop-suc zero (x ∷ xs) z h = refl
-  drop-suc (suc i) (x ∷ xs) z h = drop-suc i xs z (le-of-suc-le-suc h)
-
   -- What is left, first one and then the others.
   pub drop-next : (i : ℕ) (xs : List A) (z : A) → i < length xs → drop i xs ≡ getD xs i z ∷ drop (i + 1) xs
-  drop-next i xs z h = drop-suc i xs z h ∙ rw (add-one i)
+  drop-next i xs z h = drop-cons xs i z h ∙ rw (add-one i)
 
 -- ---- the loop
 

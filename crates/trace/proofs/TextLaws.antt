@@ -8,10 +8,11 @@ use native.Mathlib.Numerals.{add-one}
 use native.Mathlib.Omega.{arith}
 use lib.Dec.{ltb}
 use lib.ListN.{length, take, drop, set, getD, length-append, length-drop, length-map, drop-of-length-le, length-set}
-use lib.Seq.{sets, length-sets, drop-cons}
+use lib.Seq.{sets, length-sets}
 use borrow.Author.Tests.{ltb-true, ltb-false, lt-ltb, le-ltb}
 use Rattle.waymap.proofs.Booleans.{cases}
 use Rattle.io.specs.Digits.{digits, Fewest}
+use Rattle.isolation.proofs.PurgeLaws.{drop-next}
 use Rattle.trace.specs.Listing.{decimalBy, decimal, line}
 use Rattle.trace.specs.Inside.{Written, writtenOf, append, endOf}
 
@@ -49,10 +50,6 @@ piece-long xs w e = ap (λ (v : Written). length (v .out)) e ∙ length-sets (w 
 
 -- ---- bytes
 
--- What is left, first one and then the others.
-drop-next : (xs : List ℕ) (i z : ℕ) → i < length xs → drop i xs ≡ getD xs i z ∷ drop (i + 1) xs
-drop-next xs i z h = drop-cons xs i z h ∙ ap (λ (n : ℕ). getD xs i z ∷ drop n xs) (sym (add-one i))
-
 -- After i bytes: the bytes to come make the whole.
 pub record Putting (bytes out₀ : List ℕ) (at : ℕ) (out : List ℕ) (i : ℕ) : Type 0 where
   pub inside : i ≤ length bytes
@@ -73,7 +70,7 @@ put-turned {bytes} {out₀} {out} {at} {i} z p h = record {
       ap (append (drop (i + 1) bytes))
       (ap (λ (n : ℕ). writtenOf n (set out (at + i) (getD bytes i z))) (sym (add-assoc at i 1)) ∙ sym (append-byte (getD bytes i z) (at + i) out))
       ∙ append-append (getD bytes i z ∷ []) (drop (i + 1) bytes) (writtenOf (at + i) out)
-      ∙ ap (λ (xs : List ℕ). append xs (writtenOf (at + i) out)) (sym (drop-next bytes i z h))
+      ∙ ap (λ (xs : List ℕ). append xs (writtenOf (at + i) out)) (sym (drop-next i bytes z h))
       ∙ p .is;
 }
 
@@ -176,7 +173,7 @@ line-turned {values} {out₀} {out} {new} {at} {next} {after} {i} z p h e b l =
           ∙ append-append (decimal v ++ endOf i (length values) ∷ []) (line rest) (writtenOf next out)
           ∙ ap (λ (x : ℕ). append ((decimal v ++ x ∷ []) ++ line rest) (writtenOf next out)) (sym (end-after values i h))
           ∙ ap (λ (xs : List ℕ). append xs (writtenOf next out)) (sym (line-cons (decimal v) rest))
-          ∙ ap (λ (xs : List ℕ). append (line (map decimal xs)) (writtenOf next out)) (sym (drop-next values i z h))
+          ∙ ap (λ (xs : List ℕ). append (line (map decimal xs)) (writtenOf next out)) (sym (drop-next i values z h))
           ∙ p .is;
     }
 
