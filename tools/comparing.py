@@ -20,6 +20,10 @@ STEP_LINE = re.compile(rb"^\d+ (?:refused (\d+)|([a-z]+)(.*))$", re.MULTILINE)
 PAUSE = 0.005  # seconds, a few times what a program needs to start and to read what is there
 
 
+class Problem(Exception):
+    """A program that cannot be had, or arguments that make no sense: exit status 2."""
+
+
 # Running one program on one file.
 
 @dataclass(frozen=True)
@@ -75,7 +79,7 @@ def shares(families, count):
 
 def made_files(families, options):
     """For each family its name, what it is, and its files, made one by one."""
-    for family, number in zip(families, shares(families, options.count)):
+    for family, number in zip(families, shares(families, options.files)):
         files = (File(family.name, f"seed-{options.seed}-{family.name}-{index}", make(family, options.seed, index),
                       family.pauses) for index in range(number))
         yield family.name, family.about, files
@@ -264,8 +268,8 @@ def report(proved, reference, families, options):
     started = time.monotonic()
     comparison = Comparison(proved, reference, options)
     print(f"proved     {short_path(proved)}\nreference  {short_path(reference)}")
-    print("agreed, by family" + ("" if options.files else f", of seed {options.seed}"), flush=True)
-    for group in given_files(options.files) if options.files else made_files(families, options):
+    print("agreed, by family" + ("" if options.paths else f", of seed {options.seed}"), flush=True)
+    for group in given_files(options.paths) if options.paths else made_files(families, options):
         comparison.family(*group)
         if comparison.enough():
             print(f"given up after {len(comparison.differences)} differences (--stop-after)")

@@ -9,7 +9,7 @@ import time
 from dataclasses import dataclass
 
 from comparing import Census, agreed, run, short_path
-from traces import MOST_STEPS, Mix, Trace, grow
+from traces import MOST_STEPS, Mix, grow, halved
 
 TRACES = [
     ("mixed", "64 sets, 8 ways, Tree-PLRU, some of everything", (64, 8, 0), Mix(used_sets=40)),
@@ -24,12 +24,8 @@ TRACES = [
 
 def trace(seed, name, geometry, mix):
     """A trace of 4,096 steps that begins with two domains, each with half of the ways."""
-    made = Trace(random.Random(f"{seed} {name}"), geometry)
+    made = halved(random.Random(f"{seed} {name}"), geometry)
     made.cast = [0, 1, 2, 3]
-    half = made.ways // 2
-    low = (1 << half) - 1
-    made.set_policy(0, low, low)
-    made.set_policy(1, low << half, low << half)
     return grow(made, mix, MOST_STEPS).file()
 
 

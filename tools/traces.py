@@ -129,6 +129,16 @@ class Trace:
         return whole_file(self.geometry, self.steps)
 
 
+def halved(rng, geometry):
+    """A trace that begins with two domains, 0 and 1, each with half of the ways."""
+    trace = Trace(rng, geometry)
+    half = trace.ways // 2
+    low = (1 << half) - 1
+    trace.set_policy(0, low, low)
+    trace.set_policy(1, low << half, low << half)
+    return trace
+
+
 # Policy changes: each adds one or a few steps.
 
 def change_grant(trace):

@@ -1,99 +1,14 @@
-//! The tables, the domains, and "Steps": access, flush and policy change.
+//! The tables, and "Steps": access, flush and policy change.
 
-use crate::geometry::{all_ways, holds, lowest, only, Geometry, Map};
-use crate::refusals::{judge, Refusal};
+use crate::domains::{Counts, Domains, Policy};
+use crate::geometry::Geometry;
+use crate::maps::{holds, lowest, only, Map};
+use crate::refusals::judge;
 use crate::replacement;
+use crate::steps::{Answer, Kind, Step};
 
 #[cfg(test)]
 mod tests;
-
-/// "Domains 0 to 15."
-pub const DOMAINS: usize = 16;
-
-/// A step as the trace file has it: any domain number, kind and argument.
-#[derive(Clone, Copy, PartialEq, Eq, Debug)]
-pub struct Step {
-    pub domain: u8,
-    pub kind: u8,
-    pub argument: u64,
-}
-
-#[derive(Clone, Copy, PartialEq, Eq, Debug)]
-pub enum Kind {
-    Fetch,
-    Load,
-    Store,
-    Flush,
-    Policy,
-}
-
-impl Kind {
-    /// "Kinds: 0 instruction fetch, 1 load, 2 store, 3 flush, 16 policy. Kinds 4 to 15 and 17 to 255 are unknown."
-    pub fn from_number(number: u8) -> Option<Kind> {
-        match number {
-            0 => Some(Kind::Fetch),
-            1 => Some(Kind::Load),
-            2 => Some(Kind::Store),
-            3 => Some(Kind::Flush),
-            16 => Some(Kind::Policy),
-            4..=15 | 17..=255 => None,
-        }
-    }
-}
-
-#[derive(Clone, Copy, PartialEq, Eq, Debug)]
-pub enum Answer {
-    Hit { way: usize },
-    Fill { way: usize },
-    Evict { way: usize, tag: u64, dirty: bool },
-    Pass,
-    Flush { way: usize, dirty: bool },
-    Absent,
-    Policy { dropped: u32, dirty_dropped: u32 },
-    Refused(Refusal),
-}
-
-/// "Each domain has a hit map, a fill map and five 32-bit counts."
-#[derive(Clone, Copy, PartialEq, Eq, Debug, Default)]
-pub struct Policy {
-    pub hit_map: Map,
-    pub fill_map: Map,
-}
-
-impl Policy {
-    /// "The argument holds the hit map (low 16 bits), the fill map (next 16) and zeros."
-    pub fn from_argument(argument: u64) -> Policy {
-        Policy { hit_map: argument as Map, fill_map: (argument >> 16) as Map }
-    }
-
-    /// A stored policy "is read with ways of W or more left out of both maps and the fill map cut to its hit map".
-    fn as_read(self, ways: usize) -> Policy {
-        let hit_map = self.hit_map & all_ways(ways);
-        Policy { hit_map, fill_map: self.fill_map & hit_map }
-    }
-}
-
-#[derive(Clone, Copy, PartialEq, Eq, Debug, Default)]
-pub struct Counts {
-    pub hits: u32,
-    pub misses: u32,
-    pub evicted: u32,
-    pub written_back: u32,
-    pub flushed: u32,
-}
-
-impl Counts {
-    /// "Hits, misses, evicted, written back, flushed."
-    pub fn in_order(&self) -> [u32; 5] {
-        [self.hits, self.misses, self.evicted, self.written_back, self.flushed]
-    }
-}
-
-#[derive(Clone, Copy, Default)]
-struct Domain {
-    stored: Policy,
-    counts: Counts,
-}
 
 /// One cache and its domains. "Tags, S × W words of 64 bits, the W tags of a set side by side; valid and dirty, one
 /// 16-bit map per set each; replacement, one 64-bit word per set."
@@ -103,7 +18,7 @@ pub struct Cache {
     valid: Vec<Map>,
     dirty: Vec<Map>,
     replacement: Vec<u64>,
-    domains: [Domain; DOMAINS],
+    domains: Domains,
 }
 
 impl Cache {
@@ -116,26 +31,17 @@ impl Cache {
             valid: vec![0; geometry.sets],
             dirty: vec![0; geometry.sets],
             replacement: vec![replacement::fresh_word(&geometry); geometry.sets],
-            domains: [Domain::default(); DOMAINS],
+            domains: Domains::fresh(geometry.ways),
         }
     }
 
-    pub fn geometry(&self) -> &Geometry {
-        &self.geometry
-    }
-
-    /// A domain's policy as it is read. Every use of a policy is of this one.
-    pub fn policy(&self, domain: usize) -> Policy {
-        self.domains[domain].stored.as_read(self.geometry.ways)
-    }
-
-    pub fn counts(&self, domain: usize) -> &Counts {
-        &self.domains[domain].counts
+    pub fn domains(&self) -> &Domains {
+        &self.domains
     }
 
     /// Does one step, or turns it down: "The answer is the number alone and nothing else moves."
     pub fn step(&mut self, step: &Step) -> Answer {
-        match judge(self, step) {
+        match judge(&self.geometry, &self.domains, step) {
             Err(refusal) => Answer::Refused(refusal),
             Ok((domain, Kind::Policy)) => self.change_policy(domain, Policy::from_argument(step.argument)),
             Ok((domain, Kind::Flush)) => self.flush(domain, step.argument),
@@ -149,16 +55,16 @@ impl Cache {
     /// moves."
     fn access(&mut self, domain: usize, address: u64, store: bool) -> Answer {
         let (set, tag) = self.geometry.place(address);
-        let policy = self.policy(domain);
+        let policy = self.domains.policy(domain);
         if let Some(way) = self.find(set, tag, policy.hit_map) {
             self.touch(set, policy.fill_map, way);
             if store {
                 self.dirty[set] |= only(way);
             }
-            self.domains[domain].counts.hits += 1;
+            self.domains.counts_mut(domain).hits += 1;
             return Answer::Hit { way };
         }
-        self.domains[domain].counts.misses += 1;
+        self.domains.counts_mut(domain).misses += 1;
         if policy.fill_map == 0 {
             return Answer::Pass;
         }
@@ -175,7 +81,7 @@ impl Cache {
     /// "Else the lowest invalid way of the fill map is filled; if none, the victim is evicted and its tag and
     /// dirtiness answered. The filled way is valid, dirty only for a store, and touched."
     fn fill(&mut self, domain: usize, set: usize, tag: u64, store: bool) -> Answer {
-        let fill_map = self.policy(domain).fill_map;
+        let fill_map = self.domains.policy(domain).fill_map;
         let (way, answer) = match lowest(fill_map & !self.valid[set]) {
             Some(way) => (way, Answer::Fill { way }),
             None => self.evict(domain, set, fill_map),
@@ -197,7 +103,7 @@ impl Cache {
         self.replacement[set] = word;
         let tag = self.tags[set * self.geometry.ways + way];
         let dirty = holds(self.dirty[set], way);
-        let counts = &mut self.domains[domain].counts;
+        let counts = self.domains.counts_mut(domain);
         counts.evicted += 1;
         counts.written_back += u32::from(dirty);
         (way, Answer::Evict { way, tag, dirty })
@@ -212,13 +118,13 @@ impl Cache {
     /// *absent* and no count moves."
     fn flush(&mut self, domain: usize, address: u64) -> Answer {
         let (set, tag) = self.geometry.place(address);
-        let Some(way) = self.find(set, tag, self.policy(domain).hit_map) else {
+        let Some(way) = self.find(set, tag, self.domains.policy(domain).hit_map) else {
             return Answer::Absent;
         };
         let dirty = holds(self.dirty[set], way);
         self.valid[set] &= !only(way);
         self.dirty[set] &= !only(way);
-        let counts = &mut self.domains[domain].counts;
+        let counts = self.domains.counts_mut(domain);
         counts.flushed += 1;
         counts.written_back += u32::from(dirty);
         Answer::Flush { way, dirty }
@@ -227,8 +133,9 @@ impl Cache {
     /// "Both maps are stored. Ways in exactly one of the old and new hit maps are cleaned in every set." The
     /// replacement bits change hands, in every set, by the fill maps. "The answer is the number of valid lines dropped
     /// and how many of them were dirty; counts do not move. Two zero maps remove the domain and zero its counts."
+    #[inline(never)] // so that the loop over the sets has the registers to itself
     fn change_policy(&mut self, domain: usize, new: Policy) -> Answer {
-        let old = self.policy(domain);
+        let old = self.domains.policy(domain);
         let cleaned = old.hit_map ^ new.hit_map;
         let own = |fill_map| replacement::own_bits(&self.geometry, fill_map);
         let changed = own(old.fill_map) ^ own(new.fill_map);
@@ -240,9 +147,9 @@ impl Cache {
             self.clean(set, cleaned);
             self.replacement[set] = replacement::hand_over(&self.geometry, self.replacement[set], changed);
         }
-        self.domains[domain].stored = new;
+        self.domains.store(domain, new);
         if new == Policy::default() {
-            self.domains[domain].counts = Counts::default();
+            *self.domains.counts_mut(domain) = Counts::default();
         }
         Answer::Policy { dropped, dirty_dropped }
     }

@@ -1,6 +1,7 @@
 //! Cases A to L of document 01.
 
-use crate::geometry::{Geometry, Map};
+use crate::geometry::Geometry;
+use crate::maps::Map;
 use crate::{listing, nru, tree};
 
 /// (domain, kind, argument)

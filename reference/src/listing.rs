@@ -3,8 +3,10 @@
 
 use std::fmt::Write;
 
-use crate::cache::{Answer, Cache, DOMAINS};
+use crate::cache::Cache;
+use crate::domains::{Domains, DOMAINS};
 use crate::geometry::Geometry;
+use crate::steps::Answer;
 use crate::trace::Trace;
 
 /// Writing to a text cannot fail.
@@ -28,7 +30,7 @@ fn of_trace(trace: &Trace) -> String {
         let answer = cache.step(step);
         step_line(&mut text, place, answer);
     }
-    domain_lines(&mut text, &cache);
+    domain_lines(&mut text, cache.domains());
     text
 }
 
@@ -49,9 +51,9 @@ fn step_line(text: &mut String, place: usize, answer: Answer) {
 }
 
 /// "Then each domain whose hit map is not empty, ascending: `domain`, number and five counts."
-fn domain_lines(text: &mut String, cache: &Cache) {
-    for domain in (0..DOMAINS).filter(|&domain| cache.policy(domain).hit_map != 0) {
-        let [hits, misses, evicted, written_back, flushed] = cache.counts(domain).in_order();
+fn domain_lines(text: &mut String, domains: &Domains) {
+    for domain in (0..DOMAINS).filter(|&domain| domains.policy(domain).hit_map != 0) {
+        let [hits, misses, evicted, written_back, flushed] = domains.counts(domain).in_order();
         writeln!(text, "domain {domain} {hits} {misses} {evicted} {written_back} {flushed}").expect(WRITTEN);
     }
 }

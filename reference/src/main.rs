@@ -5,12 +5,22 @@
 //! `tools/compare` can set the two beside each other. Nothing here is proved: where the two programs differ, document
 //! 01 decides which of them is wrong.
 //!
-//! Each module is one part of document 01, and quotes the sentence that it follows:
+//! Each module is one part of document 01, and quotes the sentence that it follows. A module uses only modules that
+//! stand before it in this list:
 //!
-//! - [`geometry`]: sets, ways, rule, maps; where an address falls
-//! - [`tree`], [`nru`]: the two replacement rules; [`replacement`] chooses between them
-//! - [`cache`]: the tables, access, flush and policy change; [`refusals`]: when a step is turned down
-//! - [`trace`]: the trace file; [`listing`]: the text
+//! 1. [`numbers`]: the numbers that turn a step down
+//! 2. [`maps`]: maps of ways
+//! 3. [`geometry`]: sets, ways, rule; where an address falls
+//! 4. [`tree`], [`nru`]: the two replacement rules, neither of which uses the other
+//! 5. [`replacement`]: the rule in use, by the geometry
+//! 6. [`steps`]: what a step asks for, and what it may be answered
+//! 7. [`domains`]: policies and counts
+//! 8. [`refusals`]: when a step is turned down, by the geometry and the domains
+//! 9. [`cache`]: the tables, access, flush and policy change
+//! 10. [`trace`]: the trace file
+//! 11. [`listing`]: the text
+//!
+//! Above them are this file and, in tests only, `cases`.
 //!
 //! What a trace file cannot cause is left out: number 2 (the tables are made here, with the right lengths) and the
 //! numbers 1 and 5 that the replacement rules answer when they are called alone.
@@ -18,11 +28,15 @@
 mod cache;
 #[cfg(test)]
 mod cases;
+mod domains;
 mod geometry;
 mod listing;
+mod maps;
 mod nru;
+mod numbers;
 mod refusals;
 mod replacement;
+mod steps;
 mod trace;
 mod tree;
 

@@ -1,6 +1,6 @@
 //! "The tree and the bits": NRU. "Bit w belongs to way w."
 
-use crate::geometry::{holds, lowest, Map};
+use crate::maps::{holds, lowest, Map};
 
 /// "The low W bits of each replacement word are one" in a fresh cache.
 pub fn fresh_word(ways: usize) -> u64 {

@@ -1,6 +1,7 @@
 //! The replacement rule in use: Tree-PLRU or NRU, by the geometry. A word is the replacement word of one set.
 
-use crate::geometry::{Geometry, Map, Rule};
+use crate::geometry::{Geometry, Rule};
+use crate::maps::Map;
 use crate::{nru, tree};
 
 /// "Fresh: all zero, except that under NRU the low W bits of each replacement word are one."

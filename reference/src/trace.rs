@@ -1,9 +1,9 @@
 //! The trace file: "The file, little-endian: sets (2 bytes), ways (1), rule (1), number of steps n (4); then n codes
 //! of 2 bytes (domain, kind); then n arguments of 8 bytes. Its length is 8 + 10 × n."
 
-use crate::cache::Step;
 use crate::geometry::Geometry;
-use crate::refusals::Refusal;
+use crate::numbers::Refusal;
+use crate::steps::Step;
 
 const HEADER: usize = 8;
 const CODE: usize = 2;

@@ -3,7 +3,7 @@
 //! "Nodes 0 to W − 2; node 0 is the root, node i has children 2i + 1 (left, lower ways) and 2i + 2 (right)."
 //! Counting on below the last nodes, the children are the ways themselves: number W − 1 + w is way w.
 
-use crate::geometry::{all_ways, Map};
+use crate::maps::{all_ways, Map};
 
 fn left_child(node: usize) -> usize {
     2 * node + 1
@@ -80,7 +80,7 @@ pub fn touch(ways: usize, word: u64, fill_map: Map, way: usize) -> u64 {
 #[cfg(test)]
 mod tests {
     use super::*;
-    use crate::geometry::holds;
+    use crate::maps::holds;
 
     /// The ways below a node by the text alone: from the root down, left the lower half, right the upper.
     fn ways_below_by_halving(ways: usize, node: usize) -> std::ops::Range<usize> {

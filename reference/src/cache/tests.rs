@@ -2,6 +2,7 @@
 
 use super::*;
 use crate::geometry::Rule;
+use crate::numbers::Refusal;
 
 fn cache(ways: usize, rule: Rule) -> Cache {
     Cache::fresh(Geometry { sets: 1, ways, rule })
@@ -27,7 +28,7 @@ fn of_domain(domain: u8, step: Step) -> Step {
 #[test]
 fn the_old_policy_is_the_one_read() {
     let mut cache = cache(4, Rule::Nru);
-    cache.domains[0].stored = Policy { hit_map: 3, fill_map: 12 };
+    cache.domains.store(0, Policy { hit_map: 3, fill_map: 12 });
     cache.replacement[0] = 0;
     assert_eq!(cache.step(&policy(3, 3)), Answer::Policy { dropped: 0, dirty_dropped: 0 });
     assert_eq!(cache.replacement[0], 0b0011);
@@ -37,7 +38,7 @@ fn the_old_policy_is_the_one_read() {
 #[test]
 fn a_policy_of_high_ways_alone_is_empty() {
     let mut cache = cache(2, Rule::TreePlru);
-    cache.domains[0].stored = Policy { hit_map: 12, fill_map: 12 };
+    cache.domains.store(0, Policy { hit_map: 12, fill_map: 12 });
     assert_eq!(cache.step(&store(0)), Answer::Refused(Refusal::NoWays));
 }
 
@@ -49,12 +50,12 @@ fn any_full_count_turns_down_access_and_flush_but_no_policy() {
         let mut counts = [0; 5];
         counts[full] = u32::MAX;
         let [hits, misses, evicted, written_back, flushed] = counts;
-        cache.domains[0].counts = Counts { hits, misses, evicted, written_back, flushed };
+        *cache.domains.counts_mut(0) = Counts { hits, misses, evicted, written_back, flushed };
         assert_eq!(cache.step(&store(0)), Answer::Refused(Refusal::CountSpent));
         assert_eq!(cache.step(&flush(0)), Answer::Refused(Refusal::CountSpent));
-        assert_eq!(cache.counts(0).in_order(), counts);
+        assert_eq!(cache.domains.counts(0).in_order(), counts);
         assert_eq!(cache.step(&policy(1, 1)), Answer::Policy { dropped: 0, dirty_dropped: 0 });
-        cache.domains[0].stored = Policy::default();
+        cache.domains.store(0, Policy::default());
         assert_eq!(cache.step(&store(0)), Answer::Refused(Refusal::NoWays));
     }
 }
@@ -66,7 +67,7 @@ fn dropped_lines_are_answered_and_not_counted() {
     cache.step(&store(5));
     cache.step(&Step { kind: 1, ..store(6) });
     assert_eq!(cache.step(&policy(12, 12)), Answer::Policy { dropped: 2, dirty_dropped: 1 });
-    assert_eq!(cache.counts(0).in_order(), [0, 2, 0, 0, 0]);
+    assert_eq!(cache.domains.counts(0).in_order(), [0, 2, 0, 0, 0]);
     assert_eq!((cache.valid[0], cache.dirty[0], &cache.tags[..]), (0, 0, &[0; 4][..]));
 }
 
@@ -76,10 +77,10 @@ fn only_two_zero_maps_zero_the_counts() {
     cache.step(&policy(3, 3));
     cache.step(&store(0));
     cache.step(&policy(3, 0));
-    assert_eq!(cache.counts(0).in_order(), [0, 1, 0, 0, 0]);
+    assert_eq!(cache.domains.counts(0).in_order(), [0, 1, 0, 0, 0]);
     assert_eq!(cache.step(&store(1)), Answer::Pass);
     assert_eq!(cache.step(&policy(0, 0)), Answer::Policy { dropped: 1, dirty_dropped: 1 });
-    assert_eq!(cache.counts(0).in_order(), [0; 5]);
+    assert_eq!(cache.domains.counts(0).in_order(), [0; 5]);
     assert_eq!(cache.step(&policy(0, 0)), Answer::Policy { dropped: 0, dirty_dropped: 0 });
     assert_eq!(cache.step(&policy(0, 1)), Answer::Refused(Refusal::Argument));
 }
@@ -130,8 +131,8 @@ fn replacement_bits_are_handed_over_clean() {
 #[test]
 fn overlapping_policies_are_read_as_they_are() {
     let mut cache = cache(4, Rule::Nru);
-    cache.domains[0].stored = Policy { hit_map: 7, fill_map: 7 };
-    cache.domains[1].stored = Policy { hit_map: 6, fill_map: 6 };
+    cache.domains.store(0, Policy { hit_map: 7, fill_map: 7 });
+    cache.domains.store(1, Policy { hit_map: 6, fill_map: 6 });
     assert_eq!(cache.step(&of_domain(1, store(3))), Answer::Fill { way: 1 });
     assert_eq!(cache.step(&policy(3, 3)), Answer::Refused(Refusal::SharedWay));
     assert_eq!(cache.step(&policy(0, 0)), Answer::Policy { dropped: 1, dirty_dropped: 1 });

@@ -1,0 +1,23 @@
+//! "Geometry and tables": maps of ways.
+
+/// "A map is a 16-bit word whose bit w stands for way w."
+pub type Map = u16;
+
+/// The map of way `way` alone.
+pub fn only(way: usize) -> Map {
+    1 << way
+}
+
+/// The map of all ways below `ways`, which may be 16.
+pub fn all_ways(ways: usize) -> Map {
+    ((1u32 << ways) - 1) as Map
+}
+
+pub fn holds(map: Map, way: usize) -> bool {
+    map & only(way) != 0
+}
+
+/// The lowest way of a map, if it holds one.
+pub fn lowest(map: Map) -> Option<usize> {
+    (0..Map::BITS as usize).find(|&way| holds(map, way))
+}

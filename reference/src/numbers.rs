@@ -1,0 +1,32 @@
+//! "When a step is turned down": the numbers. What is asked for each of them stands where it is asked: number 10 in
+//! `trace`, 1 in `geometry`, the others in `refusals`.
+
+/// The refusals that a trace file can meet, each with its number. (No file of 4,096 steps reaches `CountSpent`.)
+#[derive(Clone, Copy, PartialEq, Eq, Debug)]
+pub enum Refusal {
+    /// "Geometry outside the limits."
+    Geometry = 1,
+    /// "Domain 16 or more."
+    Domain = 3,
+    /// "Unknown kind."
+    Kind = 4,
+    /// "Policy argument with a way W or higher, a fill map that is not part of the hit map, or a high bit set."
+    Argument = 5,
+    /// "Access or flush by a domain with an empty hit map."
+    NoWays = 6,
+    /// "Access or flush while any count of that domain is 4,294,967,295."
+    CountSpent = 7,
+    /// "Policy whose hit map shares a way with another domain's."
+    SharedWay = 8,
+    /// "Policy under Tree-PLRU with a node free for it and for another domain."
+    SharedNode = 9,
+    /// "Trace file under 8 bytes, not of its length, or with more than 4,096 steps. It comes before all others and
+    /// ends the run."
+    TraceFile = 10,
+}
+
+impl Refusal {
+    pub fn number(self) -> u8 {
+        self as u8
+    }
+}
