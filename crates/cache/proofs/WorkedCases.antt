@@ -16,7 +16,8 @@ use Rattle.cache.specs.Geometry.{setOf, tagOf}
 use Rattle.cache.specs.Tables.{rowAt, putRow, eachSet, total}
 use Rattle.cache.specs.Domains.{putDomain, counted}
 use Rattle.cache.specs.Step.{State, onSet, rowEffect, useLine, newDomain, changePolicy, stepBy, decided, step}
-use Rattle.cache.specs.Run.{Command, answersOf, finally}
+use Rattle.command.specs.Command.{Command}
+use Rattle.cache.specs.Run.{answersOf, finally}
 use Rattle.cache.specs.Fresh.{freshTables, freshDomains, fresh}
 
 abbrev pub does : ℕ → ℕ → ℕ → Command

@@ -1,14 +1,9 @@
 -- A run: steps one after another, "each later step gets those that the step before it left, turned down or not".
 use mathlib.Core.List.{List, [], _∷_}
 use Prim.Native.Nat.{ℕ}
+use Rattle.command.specs.Command.{Command}
 use Rattle.verdict.specs.declared.Geometry.{Geometry}
 use Rattle.cache.specs.Step.{State, Outcome, step}
-
--- A step to take: the domain that it names, its kind and its argument, of any numbers.
-pub record Command : Type 0 where
-  pub domain : ℕ
-  pub kind : ℕ
-  pub argument : ℕ
 
 abbrev pub stepOn : Geometry → Command → State → Outcome
 stepOn g c s = step g (c .domain) (c .kind) (c .argument) s

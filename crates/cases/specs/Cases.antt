@@ -7,7 +7,8 @@ use Rattle.waymap.specs.Bits.{bit, word}
 use Rattle.replacement.specs.Tree as Tree
 use Rattle.replacement.specs.Rule.{Rule, tree, nru}
 use Rattle.verdict.specs.declared.Geometry.{Geometry}
-use Rattle.cache.specs.Run.{Command, answersOf}
+use Rattle.command.specs.Command.{Command}
+use Rattle.cache.specs.Run.{answersOf}
 use Rattle.cache.specs.Fresh.{fresh}
 
 pub record Case : Type 0 where

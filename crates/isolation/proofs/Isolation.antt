@@ -24,7 +24,8 @@ use Rattle.verdict.specs.declared.Domain.{Domain}
 use Rattle.verdict.proofs.GeometryLaws.{limited}
 use Rattle.cache.specs.Tables.{rowAt}
 use Rattle.cache.specs.Step.{State, Outcome, step}
-use Rattle.cache.specs.Run.{Command, stepOn, answersOf, finally}
+use Rattle.command.specs.Command.{Command}
+use Rattle.cache.specs.Run.{stepOn, answersOf, finally}
 use Rattle.cache.specs.Fresh.{freshTables, freshDomains, fresh}
 use Rattle.cache.specs.Inside.{Shaped}
 use Rattle.isolation.specs.Purge.{belongs, keeps, purge}

@@ -11,45 +11,29 @@ use lib.ListN.{length, drop, set, getD, length-map, length-append, length-drop, 
 use lib.Seq.{drop-cons}
 use borrow.Author.Tests.{leb-true, leb-false, lt-ltb, le-ltb, eq-eqb, ne-eqb}
 use Rattle.waymap.proofs.Booleans.{cases}
-use Rattle.cache.specs.Run.{Command}
+use Rattle.command.specs.Command.{Command, commandOf, codeOf, argumentOf, commandsOf, commandIs}
+use Rattle.command.specs.declared.Command.{Command as Given}
+use Rattle.command.proofs.CommandLaws.{code-of-command}
+use Rattle.command.proofs.ListLaws.{store-next, drop-next}
 use Rattle.isolation.specs.Purge.{keeps, purge}
-use Rattle.isolation.specs.Calls.{commandOf, codeOf, argumentOf, commandsOf, Taken, takenOf, taking, purgeOf}
+use Rattle.isolation.specs.Calls.{Taken, takenOf, taking, purgeOf}
 use Rattle.isolation.specs.Inside.{takeOne}
 use Rattle.isolation.specs.declared.Purged.{Purged}
 
 -- ---- a step and its code
-
-pub code-of-command : (code argument : ℕ) → codeOf (commandOf code argument) ≡ code
-unfolding codeOf commandOf
-code-of-command code argument = omega arith
 
 at-least : (a b : ℕ) → leb a b ≡ not (ltb b a)
 at-least a b = cases (leb a b)
     (λ y. rw (y, le-ltb b a (leb-true a b y)))
     (λ n. rw (n, lt-ltb b a (leb-false a b n)))
 
-pub stays-own : (d code argument : ℕ) → code % 256 ≡ d → true ≡ keeps d (commandOf code argument)
-unfolding keeps commandOf
-stays-own d code argument e = rw (eq-eqb (code % 256) d e)
+pub stays-own : (d : ℕ) (s : Given) {c : Command} → commandIs s ≡ c → s .domain ≡ d → true ≡ keeps d c
+unfolding keeps
+stays-own d s e own = rw (← e, eq-eqb (s .domain) d own)
 
-pub stays-other : (d code argument : ℕ) → (code % 256 ≡ d → ⊥) → leb 4 (code / 256) ≡ keeps d (commandOf code argument)
-unfolding keeps commandOf
-stays-other d code argument e = rw (ne-eqb (code % 256) d e) (at-least 4 (code / 256))
-
--- ---- lists
-
-module _ {A : Type 0} where
-  -- One more at the front's end, by a store.
-  pub store-next : (xs ys : List A) (x : A) → length xs < length ys
-      → set (xs ++ drop (length xs) ys) (length xs) x ≡ (xs ++ x ∷ []) ++ drop (suc (length xs)) ys
-  store-next [] [] x h = absurd (not-suc-le-zero h)
-  store-next [] (y ∷ ys) x h = refl
-  store-next (a ∷ xs) [] x h = absurd (not-suc-le-zero h)
-  store-next (a ∷ xs) (y ∷ ys) x h = ap (λ (l : List A). a ∷ l) (store-next xs ys x (le-of-suc-le-suc h))
-
-  -- What is left, first one and then the others.
-  pub drop-next : (i : ℕ) (xs : List A) (z : A) → i < length xs → drop i xs ≡ getD xs i z ∷ drop (i + 1) xs
-  drop-next i xs z h = drop-cons xs i z h ∙ rw (add-one i)
+pub stays-other : (d : ℕ) (s : Given) {c : Command} → commandIs s ≡ c → (s .domain ≡ d → ⊥) → leb 4 (s .kind) ≡ keeps d c
+unfolding keeps
+stays-other d s e other = rw (← e, ne-eqb (s .domain) d other) (at-least 4 (s .kind))
 
 -- ---- the loop
 

@@ -22,7 +22,8 @@ use Rattle.verdict.specs.declared.Domain.{Domain}
 use Rattle.verdict.proofs.GeometryLaws.{limited}
 use Rattle.cache.specs.Tables.{Tables, lengths}
 use Rattle.cache.specs.Step.{State, Outcome, answers, useLine, changePolicy, stepBy, decided, step}
-use Rattle.cache.specs.Run.{Command, stepOn}
+use Rattle.command.specs.Command.{Command}
+use Rattle.cache.specs.Run.{stepOn}
 use Rattle.cache.specs.Inside.{Shaped, lineWork}
 use Rattle.isolation.specs.Purge.{belongs, keeps}
 use Rattle.isolation.specs.StruckOut.{numberOf}

@@ -1,27 +1,12 @@
--- What the call that purges a trace gives. A step is a code, its domain plus 256 times its kind, and an argument.
+-- What the call that purges a trace gives.
 use mathlib.Core.Bool.{Bool, cond, _&&_}
 use mathlib.Core.List.{List, [], _∷_, _++_, map}
-use Prim.Native.Nat.{ℕ, _+_, _*_, _/_, _%_}
+use Prim.Native.Nat.{ℕ}
 use lib.Dec.{eqb}
 use lib.ListN.{length, drop}
-use Rattle.cache.specs.Run.{Command}
+use Rattle.command.specs.Command.{Command, codeOf, argumentOf, commandsOf}
 use Rattle.isolation.specs.Purge.{purge}
 use Rattle.isolation.specs.declared.Purged.{Purged}
-
-unfoldable pub commandOf : ℕ → ℕ → Command
-commandOf code argument = record { domain = code % 256; kind = code / 256; argument = argument }
-
-unfoldable pub codeOf : Command → ℕ
-codeOf c = c .domain + 256 * c .kind
-
-abbrev pub argumentOf : Command → ℕ
-argumentOf c = c .argument
-
--- The steps of codes and arguments side by side.
-unfoldable pub commandsOf : List ℕ → List ℕ → List Command
-commandsOf [] args = []
-commandsOf (c ∷ cs) [] = []
-commandsOf (c ∷ cs) (a ∷ args) = commandOf c a ∷ commandsOf cs args
 
 -- The refusal's number or 0, how many steps are kept, and the two tables that take them: those steps, and after them what was there.
 pub record Taken : Type 0 where

@@ -4,7 +4,8 @@ use mathlib.Core.List.{List}
 use Prim.Native.Nat.{ℕ, _+_}
 use lib.ListN.{set}
 use Rattle.isolation.specs.Purge.{keeps}
-use Rattle.isolation.specs.Calls.{commandOf, Taken}
+use Rattle.command.specs.Command.{commandOf}
+use Rattle.isolation.specs.Calls.{Taken}
 
 -- One step taken into place n, if it is kept.
 unfoldable pub takeOne : ℕ → ℕ → ℕ → ℕ → List ℕ → List ℕ → Taken

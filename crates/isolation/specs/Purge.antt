@@ -3,7 +3,7 @@ use mathlib.Core.Bool.{Bool, cond, not, _||_}
 use mathlib.Core.List.{List, [], _∷_}
 use Prim.Native.Nat.{ℕ}
 use lib.Dec.{eqb, ltb}
-use Rattle.cache.specs.Run.{Command}
+use Rattle.command.specs.Command.{Command}
 
 -- "A step belongs to the domain it names."
 abbrev pub belongs : ℕ → Command → Bool

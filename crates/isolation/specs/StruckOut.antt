@@ -10,7 +10,8 @@ use Rattle.verdict.specs.Domains.{domainOf, policies}
 use Rattle.verdict.specs.declared.Geometry.{Geometry}
 use Rattle.cache.specs.Tables.{rowAt}
 use Rattle.cache.specs.Step.{State}
-use Rattle.cache.specs.Run.{Command, answersOf, finally}
+use Rattle.command.specs.Command.{Command}
+use Rattle.cache.specs.Run.{answersOf, finally}
 use Rattle.cache.specs.Fresh.{fresh}
 use Rattle.isolation.specs.Purge.{belongs, purge}
 

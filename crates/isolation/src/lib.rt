@@ -2,8 +2,9 @@
 ghost use mathlib.Core.Path.{_≡_};
 ghost use Prim.Native.Nat.{_<_};
 ghost use lib.ListN.{length};
+ghost use Rattle.command.specs.Command.{commandOf};
 ghost use Rattle.isolation.specs.Purge.{keeps};
-ghost use Rattle.isolation.specs.Calls.{commandOf, takenOf, purgeOf, Taken};
+ghost use Rattle.isolation.specs.Calls.{takenOf, purgeOf, Taken};
 ghost use Rattle.isolation.specs.Inside.{takeOne};
 
 // The refusal's number or 0, and how many steps are kept.
@@ -16,10 +17,11 @@ pub struct Purged {
 fn stays(domain: usize, code: u16, argument: u64) -> bool
     ensures { λ r. ⌜ r ≡ keeps domain (commandOf code argument) ⌝ }
 {
-    if (code % 256) as usize == domain {
+    let step = command::command_of(code, argument);
+    if step.domain as usize == domain {
         return true;
     }
-    4 <= code / 256
+    4 <= step.kind
 }
 
 // A step taken into place `count`, if it stays; the number of steps taken then.

@@ -45,11 +45,6 @@ fn teen(digit: usize) -> usize {
     16
 }
 
-// A step's code: its domain plus 256 times its kind.
-fn code_of(domain: u8, kind: u8) -> u16 {
-    (domain as u16) + 256 * (kind as u16)
-}
-
 // The codes and arguments of the steps of a file.
 fn split(file: &[u8], n: u32, codes: &mut [u16], arguments: &mut [u64])
     requires { ⌜ n ≤ length (now codes) ⌝ }
@@ -59,7 +54,7 @@ fn split(file: &[u8], n: u32, codes: &mut [u16], arguments: &mut [u64])
     while i < n {
         let command = tracefile::command_at(file, n, i);
         let place = i as usize;
-        codes[place] = code_of(command.domain, command.kind);
+        codes[place] = command::code_of(command);
         arguments[place] = command.argument;
         i += 1;
     }

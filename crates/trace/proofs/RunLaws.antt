@@ -9,7 +9,8 @@ use Rattle.verdict.specs.Geometry.{within, Lengths, sized}
 use Rattle.verdict.specs.Domains.{maxDomains}
 use Rattle.verdict.specs.declared.Domains.{Domains}
 use Rattle.verdict.specs.declared.Geometry.{Geometry}
-use Rattle.cache.specs.Run.{Command, stepOn, answersOf, finally}
+use Rattle.command.specs.Command.{Command}
+use Rattle.cache.specs.Run.{stepOn, answersOf, finally}
 use Rattle.cache.specs.Step.{State, Outcome}
 use Rattle.cache.specs.Tables.{Tables, lengths}
 use Rattle.cache.specs.Fresh.{freshTables, freshDomains, fresh, Made, madeOf, freshOf}

@@ -16,9 +16,9 @@ use Rattle.cache.specs.Geometry.{setOf, tagOf}
 use Rattle.cache.specs.Tables.{rowAt, putRow, eachSet, total}
 use Rattle.cache.specs.Domains.{putDomain, counted}
 use Rattle.cache.specs.Step.{State, onSet, rowEffect, useLine, newDomain, changePolicy, stepBy, decided, step}
-use Rattle.cache.specs.Run.{Command, answersOf, finally}
+use Rattle.command.specs.Command.{Command, commandOf}
+use Rattle.cache.specs.Run.{answersOf, finally}
 use Rattle.cache.specs.Fresh.{freshTables, freshDomains, fresh}
-use Rattle.isolation.specs.Calls.{commandOf}
 use Rattle.tracefile.specs.File.{value, field, lastSteps, badFile, fileRefusal}
 use Rattle.trace.specs.Listing.{decimalBy, line, told, answerLines, domainLine, domainPart, domainLines, runLines, listing}
 

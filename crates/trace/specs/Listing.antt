@@ -10,7 +10,8 @@ use Rattle.verdict.specs.declared.Geometry.{Geometry}
 use Rattle.verdict.specs.declared.Counts.{Counts}
 use Rattle.verdict.specs.declared.Domain.{Domain}
 use Rattle.verdict.specs.declared.Domains.{Domains}
-use Rattle.cache.specs.Run.{Command, answersOf, finally}
+use Rattle.command.specs.Command.{Command}
+use Rattle.cache.specs.Run.{answersOf, finally}
 use Rattle.cache.specs.Fresh.{fresh}
 use Rattle.cache.specs.Step.{State}
 use Rattle.tracefile.specs.File.{geometryOf, stepCount, stepsOf, fileRefusal}

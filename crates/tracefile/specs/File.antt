@@ -6,9 +6,7 @@ use lib.Dec.{eqb, ltb}
 use lib.ListN.{length, take, drop}
 use Rattle.verdict.specs.Geometry.{within}
 use Rattle.verdict.specs.declared.Geometry.{Geometry}
-use Rattle.cache.specs.Run.{Command}
-use Rattle.isolation.specs.Calls.{commandOf}
-use Rattle.tracefile.specs.declared.Command.{Command as Given}
+use Rattle.command.specs.Command.{Command, commandOf}
 
 -- "little-endian": the value of some bytes.
 unfoldable pub value : List ℕ → ℕ
@@ -50,7 +48,3 @@ badFile file =
 -- The number by which a file is refused, or 0: 10 "comes before all others", then the geometry's 1.
 unfoldable pub fileRefusal : List ℕ → ℕ
 fileRefusal file = cond (badFile file) 10 (cond (not (within (geometryOf file))) 1 0)
-
--- A step as the call that reads it gives it.
-abbrev pub commandIs : Given → Command
-commandIs c = record { domain = c .domain; kind = c .kind; argument = c .argument }

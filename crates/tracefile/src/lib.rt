@@ -1,19 +1,14 @@
 // What a trace file says, for bytes of any content and number.
+use command::Command;
 use verdict::Geometry;
 ghost use mathlib.Core.Path.{_≡_};
 ghost use Prim.Native.Nat.{_+_, _*_, _^_, _≤_, _<_};
 ghost use lib.ListN.{getD};
-ghost use Rattle.tracefile.specs.File.{field as fieldOf, geometryOf, stepCount, commandAt, commandIs, fileRefusal};
+ghost use Rattle.command.specs.Command.{commandIs};
+ghost use Rattle.tracefile.specs.File.{field as fieldOf, geometryOf, stepCount, commandAt, fileRefusal};
 
 // The most steps of a trace.
 const MAX_STEPS: usize = 4096;
-
-// A step to take.
-pub struct Command {
-    pub domain: u8,
-    pub kind: u8,
-    pub argument: u64,
-}
 
 // A byte of the file; 0 behind its end.
 fn byte(file: &[u8], at: usize) -> u64
@@ -75,11 +70,7 @@ pub fn command_at(file: &[u8], n: u32, i: u32) -> Command
     let place = i as usize;
     let code = field(file, 8 + 2 * place, 2);
     let argument = field(file, 8 + before + 8 * place, 8);
-    Command {
-        domain: (code % 256) as u8,
-        kind: (code / 256) as u8,
-        argument,
-    }
+    command::command_of(code as u16, argument)
 }
 
 // The number by which a file is refused, or 0.

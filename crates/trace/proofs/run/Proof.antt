@@ -5,7 +5,7 @@ use Prim.Native.Nat.{_-_}
 use native.Mathlib.Omega.{arith}
 use Rattle.verdict.specs.Geometry.{Lengths}
 use Rattle.cache.specs.Step.{tablesOf, outcome}
-use Rattle.tracefile.specs.File.{commandIs}
+use Rattle.command.specs.Command.{commandIs}
 use Rattle.trace.proofs.RunLaws.{Running, run-begin, run-turned, run-end}
 use Rattle.trace.proofs.run.Statement.{statement}
 use Rattle.trace.proofs.run.Tie as tie

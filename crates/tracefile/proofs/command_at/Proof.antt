@@ -1,5 +1,5 @@
 -- `tracefile::command_at` meets its contract.
-use Rattle.isolation.specs.Calls.{commandOf}
+use mathlib.Core.Path.{_∙_}
 use borrow.Author.Needs.{needs}
 use Rattle.tracefile.proofs.command_at.Statement.{statement}
 use Rattle.tracefile.proofs.command_at.Tie as tie
@@ -28,15 +28,14 @@ add-field-3 c = search needs
 field-requires-2 : tie.Need-field-requires-2
 field-requires-2 c κs = search needs
 
-cast-t12 : tie.Need-cast-t12
-cast-t12 c = search needs
+cast-command-of : tie.Need-cast-command-of
+cast-command-of c = search needs
 
-cast-t14 : tie.Need-cast-t14
-cast-t14 c = search needs
+command-of-requires : tie.Need-command-of-requires
+command-of-requires c κs = search needs
 
 returns : tie.Need-returns
-unfolding commandOf
-returns c = rw ((c .before .field .ensures .0), (c .field2 .ensures .0))
+returns c = c .command-of .ensures ∙ rw ((c .before .before .field .ensures .0), (c .before .field2 .ensures .0))
 
 pub command-at-spec : {M : Type 1} → statement M
 command-at-spec =
@@ -50,6 +49,6 @@ command-at-spec =
     mul-field-2
     add-field-3
     field-requires-2
-    cast-t12
-    cast-t14
+    cast-command-of
+    command-of-requires
     returns)

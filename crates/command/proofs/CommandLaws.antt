@@ -1,0 +1,16 @@
+-- A step and its code: each gives the other.
+use mathlib.Core.Path.{_≡_, ap₂}
+use Prim.Native.Nat.{ℕ, _+_, _*_, _/_, _%_, _<_}
+use native.Mathlib.Omega.{arith}
+use Rattle.command.specs.Command.{Command, commandOf, codeOf, argumentOf}
+
+pub code-of-command : (code argument : ℕ) → codeOf (commandOf code argument) ≡ code
+unfolding codeOf commandOf
+code-of-command code argument = omega arith
+
+pub command-of-code : (c : Command) → c .domain < 256 → commandOf (codeOf c) (argumentOf c) ≡ c
+unfolding codeOf commandOf
+command-of-code c h =
+    let domain : (c .domain + 256 * c .kind) % 256 ≡ c .domain = omega arith in
+    let kind : (c .domain + 256 * c .kind) / 256 ≡ c .kind = omega arith in
+    ap₂ (λ (d k : ℕ). record { domain = d; kind = k; argument = c .argument }) domain kind
