@@ -7,3 +7,4 @@ pub mod DomainLaws
 pub mod StepLaws
 pub mod FillLaws
 pub mod WorkedCases
+pub mod DeedLaws

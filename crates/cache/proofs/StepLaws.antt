@@ -1,38 +1,44 @@
 -- A step: what it gives, by what its tests find.
-use mathlib.Core.Path.{_≡_, ap, _∙_}
+use mathlib.Core.Path.{_≡_, refl, sym, ap, _∙_}
 use mathlib.Core.Bool.{Bool, true, false, cond, _&&_}
-use Prim.Native.Nat.{ℕ, _*_, _/_, _<_}
+use mathlib.Core.List.{List, [], _∷_}
+use Prim.Native.Nat.{ℕ, zero, suc, _*_, _/_, _<_}
 use native.Mathlib.Nat.{mod-lt}
+use native.Mathlib.Omega.{arith}
 use lib.Dec.{eqb, ltb}
-use lib.ListN.{length, set}
+use lib.ListN.{length, getD, set}
 use borrow.Author.Tests.{eqb-true, ne-eqb}
-use Rattle.waymap.proofs.Booleans.{and-left, and-right}
+use denote.Enum.Declared.{tagOf as variantOf}
+use Rattle.waymap.specs.Ways.{isWays}
+use Rattle.waymap.proofs.Booleans.{cases, and-left, and-right}
 use Rattle.replacement.specs.Rule.{Rule, ruleOf}
-use Rattle.replacement.specs.Calls.{isWays, inLimits}
-use Rattle.row.specs.Answer.{answerOf}
-use Rattle.row.specs.Row.{Row, Effect, asRead}
+use Rattle.replacement.specs.Calls.{inLimits}
+use Rattle.row.specs.Row.{Row, Effect, asRead, dropped, droppedDirty, cleaned}
 use Rattle.row.specs.Calls.{accessOf, flushOf}
 use Rattle.row.specs.declared.Maps.{Maps}
 use Rattle.row.specs.declared.Answer.{Answer}
 use Rattle.row.specs.declared.Answer.the-variants.{Policy, Refused}
 use Rattle.verdict.specs.Geometry.{within, sized}
-use Rattle.verdict.specs.Domains.{noCounts, domainOf, policies, isFull}
-use Rattle.verdict.specs.Refusal.{Kind, policy, unknown, kindOf, newMaps, refusalBy, refusal}
-use Rattle.verdict.specs.Calls.{kindIs}
+use Rattle.verdict.specs.Domains.{noDomain, domainOf, mapsOf, policies}
+use Rattle.verdict.specs.Refusal.{Kind, kindOf, newMaps, useRefusal, policyRefusal, refusal}
+use Rattle.verdict.specs.Calls.{sizesOf, kindIs, policiesOf, policyRefusalOf}
 use Rattle.verdict.specs.declared.Geometry.{Geometry}
+use Rattle.verdict.specs.declared.Asked.{Asked}
 use Rattle.verdict.specs.declared.Asked.the-variants as AskedIs
-use Rattle.verdict.specs.declared.Counts.{Counts}
 use Rattle.verdict.specs.declared.Domain.{Domain}
 use Rattle.verdict.specs.declared.Domains.{Domains}
+use Rattle.verdict.specs.declared.Policies.{Policies}
+use Rattle.verdict.proofs.Asked as AskedType
 use Rattle.verdict.proofs.GeometryLaws.{limited}
-use Rattle.verdict.proofs.RefusalLaws.{Stands, stands, not-full}
+use Rattle.verdict.proofs.RefusalLaws.{asked-policy, by-line, by-policy, by-unknown}
+use Rattle.verdict.proofs.PolicyLaws.{read-policies}
 use Rattle.cache.specs.Geometry.{setOf, tagOf}
-use Rattle.cache.specs.Tables.{Tables, lengths, rowAt, putRow}
-use Rattle.cache.specs.Domains.{putDomain, counted}
+use Rattle.cache.specs.Tables.{Tables, lengths, rowAt, eachSet, total}
+use Rattle.cache.specs.Domains.{putDomain}
 use Rattle.cache.specs.Step.{State, Outcome, outcome, answers, onSet, rowEffect, useLine, newDomain, changePolicy, stepBy, decided, step}
-use Rattle.cache.specs.Inside.{Shaped, Work, RowWork, onRow, workOf, workAt, AllSwept, lineWork}
+use Rattle.cache.specs.Inside.{Shaped, Work, onRow, workOf, workAt, lineWork, usedDomain, Deed, deedOf, unless, lineDeed, policyDeed}
 use Rattle.cache.specs.declared.Stepped.{Stepped}
-use Rattle.cache.specs.declared.sets.Drops.{Drops}
+use Rattle.cache.specs.declared.account.Used.{Used}
 use Rattle.cache.proofs.SetLaws.{row-long}
 
 -- ---- a verdict, and what is done without one
@@ -58,49 +64,21 @@ module _ (g : Geometry) (d : ℕ) (flushes store : Bool) (arg : ℕ) (t : Tables
   abbrev before : State
   before = record { tables = t; domains = ds }
 
-  abbrev own : Domain
-  own = domainOf ds d
-
-  abbrev stored : Maps
-  stored = record { hit = own .hit; fill = own .fill }
-
   effect : Effect
   effect = rowEffect g (lineWork flushes (ruleOf (g .rule) (g .ways)) store) d arg before
 
-  effect-is : workOf flushes store (g .rule) stored (tagOf g arg) (rowAt (g .ways) (setOf g arg) t) ≡ effect
+  effect-is : workOf flushes store (g .rule) (mapsOf (domainOf ds d)) (tagOf g arg) (rowAt (g .ways) (setOf g arg) t) ≡ effect
   unfolding effect rowEffect policies setOf
   effect-is =
-      line-work g flushes store stored (tagOf g arg) (rowAt (g .ways) (setOf g arg) t) (h .limited .limits)
+      line-work g flushes store (mapsOf (domainOf ds d)) (tagOf g arg) (rowAt (g .ways) (setOf g arg) t) (h .limited .limits)
       (row-long g h (setOf g arg) (mod-lt (arg / 64) (h .limited .some-set)))
 
-  pub line-done : {a : Answer} {u : Tables} {r : Stepped} → RowWork a u (workAt g flushes store stored arg t)
-      → r ≡ record { answer = a; domains = putDomain d (record { hit = own .hit; fill = own .fill; counts = counted a (own .counts) }) ds }
-      → outcome r u ≡ useLine g (lineWork flushes (ruleOf (g .rule) (g .ways)) store) d arg before
+  line-done :
+      let w = workAt g flushes store (mapsOf (domainOf ds d)) arg t in
+      answers (w .answer) (record { tables = w .tables; domains = putDomain d (usedDomain (w .answer) (domainOf ds d)) ds })
+      ≡ useLine g (lineWork flushes (ruleOf (g .rule) (g .ways)) store) d arg before
   unfolding workAt onRow useLine onSet effect
-  line-done {a} {u} {r} e f =
-      ap (λ (x : Stepped). outcome x u) f ∙ (λ i. record {
-        answer = answerOf (answer-is i);
-        state = record {
-          tables = tables-is i;
-          domains = putDomain d (record { hit = own .hit; fill = own .fill; counts = counted (answer-is i) (own .counts) }) ds;
-        };
-      })
-    where
-      answer-is : a ≡ effect .answer
-      answer-is = ap (λ (w : Work). w .answer) e ∙ ap (λ (x : Effect). x .answer) effect-is
-
-      tables-is : u ≡ putRow (g .ways) (setOf g arg) (effect .row) t
-      tables-is = ap (λ (w : Work). w .tables) e ∙ ap (λ (x : Effect). putRow (g .ways) (setOf g arg) (x .row) t) effect-is
-
--- ---- a change of policy
-
-pub policy-done : (g : Geometry) (d arg : ℕ) (t : Tables) (ds : Domains) {u : Tables} {old new : Maps} {drops : Drops} {r : Stepped}
-    → old ≡ record { hit = domainOf ds d .hit; fill = domainOf ds d .fill } → new ≡ newMaps arg
-    → AllSwept g old new (g .sets) t u (drops .dropped) (drops .dirty)
-    → r ≡ record { answer = Policy (drops .dropped) (drops .dirty); domains = putDomain d (newDomain arg (domainOf ds d)) ds }
-    → outcome r u ≡ changePolicy g d arg (record { tables = t; domains = ds })
-unfolding changePolicy policies
-policy-done g d arg t ds o m e f = rw (f, e .tables-is, e .dropped-is, e .dirty-is, o, m)
+  line-done = ap (λ (e : Effect). onSet g d (setOf g arg) e before) effect-is
 
 -- ---- the step
 
@@ -122,57 +100,88 @@ shaped g t w z =
       words-long = eqb-true (length (t .words)) (g .sets) (and-right (tags && valid && dirty) words z);
     }
 
-module _ (g : Geometry) (d kind arg : ℕ) (t : Tables) (ds : Domains) {n : ℕ}
-    (e : n ≡ refusal g (lengths t) (policies (g .ways) ds) (domainOf ds d .counts) d kind arg) where
+-- a domain's own record put back changes nothing
+put-own : (d : ℕ) (ds : Domains) → putDomain d (domainOf ds d) ds ≡ ds
+unfolding putDomain domainOf
+put-own d ds = ap (λ (xs : List Domain). record { records = xs }) (set-own (ds .records) d)
+  where
+    set-own : (xs : List Domain) (i : ℕ) → set xs i (getD xs i noDomain) ≡ xs
+    set-own [] i = refl
+    set-own (x ∷ xs) zero = refl
+    set-own (x ∷ xs) (suc i) = ap (λ (l : List Domain). x ∷ l) (set-own xs i)
+
+module _ (g : Geometry) (d kind arg : ℕ) (t : Tables) (ds : Domains) where
   abbrev found : State
   found = record { tables = t; domains = ds }
 
-  pub step-refused : {r : Stepped} → (n ≡ 0 → ⊥) → r ≡ record { answer = Refused n; domains = ds } → outcome r t ≡ step g d kind arg found
+  -- what is turned down before a domain is looked at
+  pub step-refused : {n : ℕ} {r : Stepped} → n ≡ refusal g (lengths t) (policies (g .ways) ds) (domainOf ds d .counts) d kind arg → (n ≡ 0 → ⊥)
+      → r ≡ record { answer = Refused n; domains = ds } → outcome r t ≡ step g d kind arg found
   unfolding step
-  step-refused z f = ap (λ (x : Stepped). outcome x t) f ∙ rw (← e) (decided-no (stepBy (kindOf kind) g d arg found) found z)
+  step-refused e z f = ap (λ (x : Stepped). outcome x t) f ∙ rw (← e) (decided-no (stepBy (kindOf kind) g d arg found) found z)
 
-  module _ (z : n ≡ 0) where
-    -- what the verdict says of a step that it lets pass
-    passed : Stands g (lengths t) (policies (g .ways) ds) (domainOf ds d .counts) d kind arg
-    passed = stands g (lengths t) (policies (g .ways) ds) (domainOf ds d .counts) d kind arg e z
+  -- the domain's deed, put back: done where its number is 0, and else nothing moves
+  step-done : {n : ℕ} {deed : Deed} (a : Answer) (x : Domain) (u : Tables)
+      → n ≡ refusal g (lengths t) (policies (g .ways) ds) (domainOf ds d .counts) d kind arg
+      → answers a (record { tables = u; domains = putDomain d x ds }) ≡ stepBy (kindOf kind) g d arg found
+      → deed ≡ unless n (domainOf ds d) t (record { answer = a; own = x; tables = u })
+      → answers (deed .answer) (record { tables = deed .tables; domains = putDomain d (deed .own) ds }) ≡ step g d kind arg found
+  unfolding step decided unless
+  step-done {n} {deed} a x u e done f =
+      ap (λ (y : Deed). answers (y .answer) (record { tables = y .tables; domains = putDomain d (y .own) ds })) f
+      ∙ rw (← e)
+      (cases (eqb n 0)
+      (λ z. rw z done)
+      (λ z. rw (z, put-own d ds)))
 
-    pub is-shaped : Shaped g t
-    is-shaped = shaped g t (passed .within-is) (passed .sized-is)
+  module _ (h : Shaped g t) (q : Asked) (k : kindIs q ≡ kindOf kind)
+      {m : ℕ} (e : m ≡ sizesOf g (lengths t)) (z : m ≡ 0) (l : d < 16) where
+    pub step-line : (flushes store : Bool) {used : Used} {u : Tables} {r : Stepped} → q ≡ AskedIs.Line flushes store
+        → deedOf used u ≡ lineDeed g (domainOf ds d) flushes store arg t
+        → r ≡ record { answer = used .answer; domains = putDomain d (used .own) ds } → outcome r u ≡ step g d kind arg found
+    unfolding lineDeed stepBy policies
+    step-line flushes store {used} {u} {r} is f b =
+        ap (λ (x : Stepped). outcome x u) b
+        ∙ step-done (w .answer) (usedDomain (w .answer) (domainOf ds d)) (w .tables) number
+        (line-done g d flushes store arg t ds h ∙ kind-line flushes store (sym (ap kindIs is) ∙ k)) f
+      where
+        w : Work
+        w = workAt g flushes store (mapsOf (domainOf ds d)) arg t
 
-    pub is-domain : d < 16
-    is-domain = passed .domain-lt
+        number : useRefusal (policies (g .ways) ds d) (domainOf ds d .counts) ≡ refusal g (lengths t) (policies (g .ways) ds) (domainOf ds d .counts) d kind arg
+        number = by-line g (lengths t) (policies (g .ways) ds) (domainOf ds d .counts) d kind arg e z q k l (ap (variantOf AskedType.the-type) is) refl
 
-    pub has-room : (flushes store : Bool) → kindIs (AskedIs.Line flushes store) ≡ kindOf kind → isFull (domainOf ds d .counts) ≡ false
-    unfolding refusalBy
-    has-room true store k = not-full (policies (g .ways) ds d) (domainOf ds d .counts) (rw (← k) at (passed .kind-is))
-    has-room false store k = not-full (policies (g .ways) ds d) (domainOf ds d .counts) (rw (← k) at (passed .kind-is))
+        kind-line : (flushes store : Bool) → kindIs (AskedIs.Line flushes store) ≡ kindOf kind
+            → useLine g (lineWork flushes (ruleOf (g .rule) (g .ways)) store) d arg found ≡ stepBy (kindOf kind) g d arg found
+        kind-line true store p = ap (λ (x : Kind). stepBy x g d arg found) p
+        kind-line false store p = ap (λ (x : Kind). stepBy x g d arg found) p
 
-    -- the step is then the work of its kind
-    done : stepBy (kindOf kind) g d arg found ≡ step g d kind arg found
-    unfolding step
-    done = rw (← e) (decided-yes (stepBy (kindOf kind) g d arg found) found z)
+    pub step-policy : {p : Policies} {used : Used} {u : Tables} {r : Stepped} → variantOf AskedType.the-type q ≡ 1 → p ≡ policiesOf ds
+        → deedOf used u ≡ policyDeed g (domainOf ds d) p d arg t
+        → r ≡ record { answer = used .answer; domains = putDomain d (used .own) ds } → outcome r u ≡ step g d kind arg found
+    unfolding policyDeed policyRefusalOf stepBy changePolicy policies
+    step-policy {p} {used} {u} {r} is o f b =
+        ap (λ (x : Stepped). outcome x u) b
+        ∙ step-done (Policy (total W (g .sets) (dropped old new) t) (total W (g .sets) (droppedDirty old new) t)) (newDomain arg (domainOf ds d))
+        (eachSet W (g .sets) (cleaned (ruleOf (g .rule) W) old new) t) number
+        (ap (λ (x : Kind). stepBy x g d arg found) (asked-policy q is ∙ k)) f
+      where
+        W : ℕ
+        W = g .ways
 
-    line-is : (flushes store : Bool) → kindIs (AskedIs.Line flushes store) ≡ kindOf kind
-        → useLine g (lineWork flushes (ruleOf (g .rule) (g .ways)) store) d arg found ≡ step g d kind arg found
-    unfolding stepBy
-    line-is true store k = ap (λ (x : Kind). stepBy x g d arg found) k ∙ done
-    line-is false store k = ap (λ (x : Kind). stepBy x g d arg found) k ∙ done
+        old : Maps
+        old = asRead W (mapsOf (domainOf ds d))
 
-    pub step-line : (flushes store : Bool) {maps : Maps} {a : Answer} {u : Tables} {r : Stepped} → kindIs (AskedIs.Line flushes store) ≡ kindOf kind
-        → maps ≡ record { hit = domainOf ds d .hit; fill = domainOf ds d .fill } → RowWork a u (workAt g flushes store maps arg t)
-        → r ≡ record { answer = a; domains = putDomain d (record { hit = domainOf ds d .hit; fill = domainOf ds d .fill; counts = counted a (domainOf ds d .counts) }) ds }
-        → outcome r u ≡ step g d kind arg found
-    step-line flushes store {maps} k m w f =
-        line-done g d flushes store arg t ds is-shaped (w ∙ ap (λ (x : Maps). workAt g flushes store x arg t) m) f ∙ line-is flushes store k
+        new : Maps
+        new = asRead W (newMaps arg)
 
-    pub step-policy : {u : Tables} {old new : Maps} {drops : Drops} {r : Stepped} → policy ≡ kindOf kind
-        → old ≡ record { hit = domainOf ds d .hit; fill = domainOf ds d .fill } → new ≡ newMaps arg
-        → AllSwept g old new (g .sets) t u (drops .dropped) (drops .dirty)
-        → r ≡ record { answer = Policy (drops .dropped) (drops .dirty); domains = putDomain d (newDomain arg (domainOf ds d)) ds }
-        → outcome r u ≡ step g d kind arg found
-    unfolding stepBy
-    step-policy k o m e f = policy-done g d arg t ds o m e f ∙ ap (λ (x : Kind). stepBy x g d arg found) k ∙ done
+        verdict : policyRefusal g (policies W ds) d arg ≡ refusal g (lengths t) (policies W ds) (domainOf ds d .counts) d kind arg
+        verdict = by-policy g (lengths t) (policies W ds) (domainOf ds d .counts) d kind arg e z q k l is refl
 
-    pub step-unknown : {r : Stepped} → unknown ≡ kindOf kind → r ≡ record { answer = Refused 4; domains = ds } → outcome r t ≡ step g d kind arg found
-    unfolding stepBy
-    step-unknown k f = ap (λ (x : Stepped). outcome x t) f ∙ ap (λ (x : Kind). stepBy x g d arg found) k ∙ done
+        number : policyRefusalOf g p d arg ≡ refusal g (lengths t) (policies W ds) (domainOf ds d .counts) d kind arg
+        number = ap (λ (x : Policies). policyRefusalOf g x d arg) o ∙ rw (h .limited .limits) (read-policies g ds d arg) ∙ verdict
+
+  pub step-unknown : {r : Stepped} (q : Asked) → kindIs q ≡ kindOf kind → {m : ℕ} → m ≡ sizesOf g (lengths t) → m ≡ 0 → d < 16
+      → variantOf AskedType.the-type q ≡ 2 → r ≡ record { answer = Refused 4; domains = ds } → outcome r t ≡ step g d kind arg found
+  step-unknown q k e z l is f =
+      step-refused (by-unknown g (lengths t) (policies (g .ways) ds) (domainOf ds d .counts) d kind arg e z q k l is) (λ n. omega arith) f

@@ -4,7 +4,6 @@ use mathlib.Core.Logic.{_⊎_, inl, inr}
 use mathlib.Core.Bool.{Bool, true, cond, _&&_}
 use mathlib.Core.List.{List, [], _∷_}
 use Prim.Native.Nat.{ℕ, zero, suc, _+_, _-_, _*_, _≤_, _<_}
-use native.Mathlib.Nat.{le-trans}
 use native.Mathlib.Numerals.{add-one}
 use native.Mathlib.Omega.{arith}
 use lib.ListN.{length}
@@ -13,19 +12,20 @@ use denote.Enum.Declared.{tagOf}
 use Rattle.waymap.specs.Bits.{bit, count}
 use Rattle.waymap.proofs.WayLaws.{count-le}
 use Rattle.replacement.specs.Rule.{Rule, ruleOf}
-use Rattle.replacement.specs.Calls.{inLimits}
 use Rattle.row.proofs.Answer.{the-type}
-use Rattle.row.proofs.LineLaws.{clean-long}
-use Rattle.row.specs.Row.{Row, Effect, ways, asRead, moved, dropped, droppedDirty, cleaned, clean}
-use Rattle.row.specs.Calls.{cleanOf}
+use Rattle.row.proofs.TagLaws.{wiped-length}
+use Rattle.row.proofs.WorkLaws.{sweep-cleans}
+use Rattle.row.specs.Row.{Row, Effect, ways, asRead, dropped, droppedDirty, cleaned, clean}
+use Rattle.row.specs.Sweep.{sweepOf, drops, sweepBy}
+use Rattle.row.specs.declared.Sweep.{Sweep}
 use Rattle.row.specs.declared.Maps.{Maps}
 use Rattle.row.specs.declared.Answer.{Answer}
 use Rattle.row.specs.declared.Answer.the-variants.{Hit, Fill, Evict, Pass, Flush, Absent, Policy, Refused}
 use Rattle.verdict.specs.declared.Geometry.{Geometry}
 use Rattle.cache.specs.Tables.{Tables, rowAt, putRow, eachSet, total}
-use Rattle.cache.specs.Inside.{Shaped, Work, RowWork, onRow, dropsIn, Swept, AllSwept}
+use Rattle.cache.specs.Inside.{Shaped, Work, RowWork, onRow, dropsIn, dropsOf, Swept, AllSwept}
 use Rattle.cache.specs.declared.sets.Drops.{Drops}
-use Rattle.cache.proofs.SetLaws.{row-long, put-shaped, each-shaped, each-later, total-le}
+use Rattle.cache.proofs.SetLaws.{row-long, put-shaped, each-later}
 
 -- ---- the drops that an answer tells
 
@@ -50,49 +50,38 @@ no-drops (Refused n) h = refl
 
 -- ---- one set
 
-module _ (g : Geometry) (old new : Maps) where
-  abbrev was : Maps
-  was = asRead (g .ways) old
+-- a sweep leaves a set as many tags as it had, and drops no more than sixteen lines
+pub swept-long : (s : Sweep) (r : Row) → length (sweepBy s r .row .tags) ≡ length (r .tags)
+unfolding sweepBy
+swept-long s r = wiped-length (bit (asRead (ways r) (record { hit = s .gone; fill = 0 }) .hit)) (r .tags)
 
-  abbrev next : Maps
-  next = asRead (g .ways) new
+few-drops : (s : Sweep) (r : Row) → (dropsOf s r .dropped ≤ 16) × (dropsOf s r .dirty ≤ 16)
+unfolding sweepBy drops
+few-drops s r =
+    let gone = asRead (ways r) (record { hit = s .gone; fill = 0 }) .hit in
+    (count-le 16 (λ (w : ℕ). bit gone w && bit (r .valid) w), count-le 16 (λ (w : ℕ). bit gone w && bit (r .valid) w && bit (r .dirty) w))
 
-  abbrev swept : Row → Row
-  swept = cleaned (ruleOf (g .rule) (g .ways)) was next
-
-  -- on a row of W tags the call's effect is the rule's
-  row-effect : (r : Row) → inLimits (g .ways) (g .rule) ≡ true → length (r .tags) ≡ g .ways → cleanOf (g .rule) old new r ≡ clean (ruleOf (g .rule) (g .ways)) was next r
-  unfolding cleanOf
-  row-effect r limits h = rw (h, limits)
-
-  module _ (t : Tables) (h : Shaped g t) (s : ℕ) (k : s < g .sets) where
-    at : cleanOf (g .rule) old new (rowAt (g .ways) s t) ≡ clean (ruleOf (g .rule) (g .ways)) was next (rowAt (g .ways) s t)
-    at = row-effect (rowAt (g .ways) s t) (h .limited .limits) (row-long g h s k)
-
-    pub swept-is : {a : Answer} {u : Tables} {d : Drops} → RowWork a u (onRow (g .ways) s (cleanOf (g .rule) old new) t) → d ≡ dropsIn a → Swept g old new s t u d
-    unfolding onRow clean
-    swept-is {a} {u} {d} e q =
-        let drops : d ≡ dropsIn (clean (ruleOf (g .rule) (g .ways)) was next (rowAt (g .ways) s t) .answer) =
-        q ∙ ap dropsIn (ap (λ (w : Work). w .answer) e ∙ ap (λ (x : Effect). x .answer) at) in
-        record {
-          tables-is = ap (λ (w : Work). w .tables) e ∙ ap (λ (x : Effect). putRow (g .ways) s (x .row) t) at;
-          dropped-is = ap (λ (x : Drops). x .dropped) drops;
-          dirty-is = ap (λ (x : Drops). x .dirty) drops;
-        }
+pub swept-is : (g : Geometry) (s : Sweep) (set : ℕ) (t : Tables) {a : Answer} {u : Tables} {d : Drops}
+    → RowWork a u (onRow (g .ways) set (sweepBy s) t) → d ≡ dropsIn a → Swept g s set t u d
+unfolding onRow
+swept-is g s set t e q = record {
+  tables-is = ap (λ (w : Work). w .tables) e;
+  drops-is = q ∙ ap (λ (w : Work). dropsIn (w .answer)) e;
+}
 
 -- ---- set after set
 
--- The first s sets are clean, and the sums are theirs.
-pub record Sweeping (g : Geometry) (old new : Maps) (before after : Tables) (drops dirt s : ℕ) : Type 0 where
+-- The first s sets are swept, and the sums are theirs.
+pub record Sweeping (g : Geometry) (sweep : Sweep) (before after : Tables) (dropped dirt s : ℕ) : Type 0 where
   pub within : s ≤ g .sets
   pub shaped : Shaped g after
-  pub swept : AllSwept g old new s before after drops dirt
-  pub few : drops ≤ 16 * s
+  pub swept : AllSwept g sweep s before after dropped dirt
+  pub few : dropped ≤ 16 * s
   pub few-dirty : dirt ≤ 16 * s
 
-pub begin : (g : Geometry) (old new : Maps) (t : Tables) → Shaped g t → Sweeping g old new t t 0 0 0
+pub begin : (g : Geometry) (sweep : Sweep) (t : Tables) → Shaped g t → Sweeping g sweep t t 0 0 0
 unfolding eachSet total
-begin g old new t h = record {
+begin g sweep t h = record {
   within = omega arith;
   shaped = h;
   swept = record { tables-is = refl; dropped-is = refl; dirty-is = refl };
@@ -100,43 +89,91 @@ begin g old new t h = record {
   few-dirty = omega arith;
 }
 
-module _ (g : Geometry) (old new : Maps) (before after : Tables) (h : Shaped g before) {drops dirt s : ℕ}
-    (l : Sweeping g old new before after drops dirt s) (k : s < g .sets) where
-  -- the row that is cleaned is the one that was there before
+module _ (g : Geometry) (sweep : Sweep) (before after : Tables) (h : Shaped g before) {dropped dirt s : ℕ}
+    (l : Sweeping g sweep before after dropped dirt s) (k : s < g .sets) where
+  -- the row that is swept is the one that was there before
   row-is : rowAt (g .ways) s after ≡ rowAt (g .ways) s before
   row-is =
       ap (rowAt (g .ways) s) (l .swept .tables-is)
-      ∙ each-later g (swept g old new) (clean-long (ruleOf (g .rule) (g .ways)) (was g old new) (next g old new)) before h s (omega arith) s (omega arith)
+      ∙ each-later g (λ (r : Row). sweepBy sweep r .row) (swept-long sweep) before h s (omega arith) s (omega arith)
 
-  below : (p : ℕ → Bool) → count (ways (rowAt (g .ways) s before)) p ≤ 16
-  below p =
-      le-trans (count-le (ways (rowAt (g .ways) s before)) p)
-      (rw (row-long g h s k) (h .limited .most-ways))
-
-  pub turned : (u : Tables) (d : Drops) → Swept g old new s after u d → Sweeping g old new before u (drops + d .dropped) (dirt + d .dirty) (s + 1)
-  unfolding eachSet total dropped droppedDirty
+  pub turned : (u : Tables) (d : Drops) → Swept g sweep s after u d → Sweeping g sweep before u (dropped + d .dropped) (dirt + d .dirty) (s + 1)
+  unfolding eachSet total
   turned u d e = record {
     within = omega arith;
     shaped = rw (e .tables-is)
-        (put-shaped g after (swept g old new (rowAt (g .ways) s after)) (l .shaped) s k
-        (clean-long (ruleOf (g .rule) (g .ways)) (was g old new) (next g old new) (rowAt (g .ways) s after) ∙ row-long g (l .shaped) s k));
+        (put-shaped g after (sweepBy sweep (rowAt (g .ways) s after) .row) (l .shaped) s k
+        (swept-long sweep (rowAt (g .ways) s after) ∙ row-long g (l .shaped) s k));
     swept = rw (add-one s) (record {
-      tables-is = e .tables-is ∙ ap₂ (λ (r : Row) (t : Tables). putRow (g .ways) s (swept g old new r) t) row-is (l .swept .tables-is);
-      dropped-is = ap₂ _+_ (l .swept .dropped-is) (drops-is);
-      dirty-is = ap₂ _+_ (l .swept .dirty-is) (dirt-is);
+      tables-is = e .tables-is ∙ ap₂ (λ (r : Row) (t : Tables). putRow (g .ways) s (sweepBy sweep r .row) t) row-is (l .swept .tables-is);
+      dropped-is = ap₂ _+_ (l .swept .dropped-is) (ap (λ (x : Drops). x .dropped) drops-is);
+      dirty-is = ap₂ _+_ (l .swept .dirty-is) (ap (λ (x : Drops). x .dirty) drops-is);
     });
-    few = omega (arith, l .few, drops-is, below (λ (w : ℕ). moved (was g old new) (next g old new) w && bit (rowAt (g .ways) s before .valid) w));
-    few-dirty = omega (arith, l .few-dirty, dirt-is, below (λ (w : ℕ). moved (was g old new) (next g old new) w && bit (rowAt (g .ways) s before .valid) w && bit (rowAt (g .ways) s before .dirty) w));
+    few = omega (arith, l .few, ap (λ (x : Drops). x .dropped) drops-is, few-drops sweep (rowAt (g .ways) s before) .0);
+    few-dirty = omega (arith, l .few-dirty, ap (λ (x : Drops). x .dirty) drops-is, few-drops sweep (rowAt (g .ways) s before) .1);
   }
     where
-      drops-is : d .dropped ≡ dropped (was g old new) (next g old new) (rowAt (g .ways) s before)
-      drops-is = e .dropped-is ∙ ap (dropped (was g old new) (next g old new)) row-is
+      drops-is : d ≡ dropsOf sweep (rowAt (g .ways) s before)
+      drops-is = e .drops-is ∙ ap (dropsOf sweep) row-is
 
-      dirt-is : d .dirty ≡ droppedDirty (was g old new) (next g old new) (rowAt (g .ways) s before)
-      dirt-is = e .dirty-is ∙ ap (droppedDirty (was g old new) (next g old new)) row-is
-
-pub end : (g : Geometry) (old new : Maps) (before after : Tables) {drops dirt s : ℕ} → Sweeping g old new before after drops dirt s → g .sets ≤ s
-    → AllSwept g old new (g .sets) before after drops dirt
-end g old new before after {drops} {dirt} {s} l k =
+pub end : (g : Geometry) (sweep : Sweep) (before after : Tables) {dropped dirt s : ℕ} → Sweeping g sweep before after dropped dirt s → g .sets ≤ s
+    → AllSwept g sweep (g .sets) before after dropped dirt
+end g sweep before after {dropped} {dirt} {s} l k =
     let all : s ≡ g .sets = omega (arith, l .within) in
-    subst (λ (n : ℕ). AllSwept g old new n before after drops dirt) all (l .swept)
+    subst (λ (n : ℕ). AllSwept g sweep n before after dropped dirt) all (l .swept)
+
+-- ---- what was worked out once is what the rules say of every set
+
+-- a change of every set, and a sum over them, go by what each row gives
+each-ext : (g : Geometry) (t : Tables) (h : Shaped g t) (e f : Row → Row) → ((r : Row) → length (r .tags) ≡ g .ways → e r ≡ f r)
+    → (n : ℕ) → n ≤ g .sets → eachSet (g .ways) n e t ≡ eachSet (g .ways) n f t
+unfolding eachSet
+each-ext g t h e f same zero le = refl
+each-ext g t h e f same (suc n) le =
+    ap₂ (putRow (g .ways) n) (same (rowAt (g .ways) n t) (row-long g h n le)) (each-ext g t h e f same n (omega arith))
+
+total-ext : (g : Geometry) (t : Tables) (h : Shaped g t) (e f : Row → ℕ) → ((r : Row) → length (r .tags) ≡ g .ways → e r ≡ f r)
+    → (n : ℕ) → n ≤ g .sets → total (g .ways) n e t ≡ total (g .ways) n f t
+unfolding total
+total-ext g t h e f same zero le = refl
+total-ext g t h e f same (suc n) le =
+    ap₂ _+_ (total-ext g t h e f same n (omega arith)) (same (rowAt (g .ways) n t) (row-long g h n le))
+
+module _ (g : Geometry) (old new : Maps) (t : Tables) (h : Shaped g t) where
+  abbrev was : Maps
+  was = asRead (g .ways) old
+
+  abbrev next : Maps
+  next = asRead (g .ways) new
+
+  effect-is : (r : Row) → length (r .tags) ≡ g .ways → sweepBy (sweepOf (g .ways) (g .rule) old new) r ≡ clean (ruleOf (g .rule) (g .ways)) was next r
+  effect-is r e =
+      subst (λ (W : ℕ). sweepBy (sweepOf W (g .rule) old new) r ≡ clean (ruleOf (g .rule) W) (asRead W old) (asRead W new) r) e
+      (sweep-cleans (g .rule) old new r (rw e (h .limited .limits)))
+
+  pub all-clean : {u : Tables} {sweep : Sweep} {n d : ℕ} → AllSwept g sweep (g .sets) t u n d → sweep ≡ sweepOf (g .ways) (g .rule) old new
+      → (u ≡ eachSet (g .ways) (g .sets) (cleaned (ruleOf (g .rule) (g .ways)) was next) t)
+      × (n ≡ total (g .ways) (g .sets) (dropped was next) t) × (d ≡ total (g .ways) (g .sets) (droppedDirty was next) t)
+  unfolding clean
+  all-clean {u} {sweep} {n} {d} a e = (tables, drops, dirt)
+    where
+      is : (r : Row) → length (r .tags) ≡ g .ways → sweepBy sweep r ≡ clean (ruleOf (g .rule) (g .ways)) was next r
+      is r q = ap (λ (s : Sweep). sweepBy s r) e ∙ effect-is r q
+
+      tables : u ≡ eachSet (g .ways) (g .sets) (cleaned (ruleOf (g .rule) (g .ways)) was next) t
+      tables =
+          a .tables-is
+          ∙ each-ext g t h (λ (r : Row). sweepBy sweep r .row) (cleaned (ruleOf (g .rule) (g .ways)) was next)
+          (λ r q. ap (λ (x : Effect). x .row) (is r q)) (g .sets) (omega arith)
+
+      drops : n ≡ total (g .ways) (g .sets) (dropped was next) t
+      drops =
+          a .dropped-is
+          ∙ total-ext g t h (λ (r : Row). dropsOf sweep r .dropped) (dropped was next)
+          (λ r q. ap (λ (x : Effect). dropsIn (x .answer) .dropped) (is r q)) (g .sets) (omega arith)
+
+      dirt : d ≡ total (g .ways) (g .sets) (droppedDirty was next) t
+      dirt =
+          a .dirty-is
+          ∙ total-ext g t h (λ (r : Row). dropsOf sweep r .dirty) (droppedDirty was next)
+          (λ r q. ap (λ (x : Effect). dropsIn (x .answer) .dirty) (is r q)) (g .sets) (omega arith)

@@ -4,8 +4,9 @@ use mathlib.Core.Bool.{xor}
 use mathlib.Core.List.{List, [], _∷_}
 use Prim.Native.Nat.{ℕ, _+_, _*_}
 use Rattle.waymap.specs.Bits.{bit, word, any, lowest, count, put, reaches}
-use Rattle.replacement.specs.Tree as Tree
-use Rattle.replacement.specs.Calls.{isWays, inLimits}
+use Rattle.tree.specs.Tree as Tree
+use Rattle.waymap.specs.Ways.{isWays}
+use Rattle.replacement.specs.Calls.{inLimits}
 use Rattle.row.specs.Row as Row
 use Rattle.verdict.specs.Geometry.{isPower, within, sized}
 use Rattle.verdict.specs.Domains.{domainOf, policies, isFull}
@@ -51,9 +52,9 @@ pub record CaseFG : Type 0 where
   pub g : answersOf eightWays (does 0 16 (both 3) ∷ does 1 16 (both 12) ∷ []) (fresh eightWays) ≡ (6 ∷ 0 ∷ 0 ∷ []) ∷ (6 ∷ 0 ∷ 0 ∷ []) ∷ []
 
 pub case-a : CaseA
-unfolding answersOf finally step decided stepBy changePolicy newDomain useLine rowEffect onSet refusal refusalBy policyRefusal useRefusal sharesNode sharesWay badArgument newMaps kindOf counted isFull policies putDomain domainOf total eachSet putRow rowAt sized tagOf setOf within isPower freshTables freshDomains fresh isWays inLimits Row.asRead Row.matches Row.isHit Row.hitWay Row.hitAt Row.filled Row.vacant Row.fillAt Row.evictAt Row.accessBy Row.access Row.flushAt Row.flush Row.moved Row.without Row.wiped Row.dropped Row.droppedDirty Row.cleaned bit word any lowest count put reaches xor Tree.passes Tree.under Tree.holds Tree.free Tree.forcedRight Tree.walk Tree.walked Tree.victim Tree.touch Tree.reset Tree.shares
+unfolding answersOf finally step decided stepBy changePolicy newDomain useLine rowEffect onSet refusal refusalBy policyRefusal useRefusal sharesNode sharesWay badArgument newMaps kindOf counted isFull policies putDomain domainOf total eachSet putRow rowAt sized tagOf setOf within isPower freshTables freshDomains fresh isWays inLimits Row.asRead Row.matches Row.isHit Row.hitWay Row.hitAt Row.filled Row.vacant Row.fillAt Row.evictAt Row.accessBy Row.access Row.flushAt Row.flush Row.moved Row.without Row.wiped Row.dropped Row.droppedDirty Row.cleaned bit word any lowest count put reaches xor Tree.passes Tree.under Tree.holds Tree.free Tree.forcedRight Tree.walk Tree.walked Tree.victim Tree.touch Tree.changes Tree.reset Tree.shares
 case-a = record { answers = refl; counts-0 = refl; counts-1 = refl }
 
 pub case-f-g : CaseFG
-unfolding answersOf finally step decided stepBy changePolicy newDomain useLine rowEffect onSet refusal refusalBy policyRefusal useRefusal sharesNode sharesWay badArgument newMaps kindOf counted isFull policies putDomain domainOf total eachSet putRow rowAt sized tagOf setOf within isPower freshTables freshDomains fresh isWays inLimits Row.asRead Row.matches Row.isHit Row.hitWay Row.hitAt Row.filled Row.vacant Row.fillAt Row.evictAt Row.accessBy Row.access Row.flushAt Row.flush Row.moved Row.without Row.wiped Row.dropped Row.droppedDirty Row.cleaned bit word any lowest count put reaches xor Tree.passes Tree.under Tree.holds Tree.free Tree.forcedRight Tree.walk Tree.walked Tree.victim Tree.touch Tree.reset Tree.shares
+unfolding answersOf finally step decided stepBy changePolicy newDomain useLine rowEffect onSet refusal refusalBy policyRefusal useRefusal sharesNode sharesWay badArgument newMaps kindOf counted isFull policies putDomain domainOf total eachSet putRow rowAt sized tagOf setOf within isPower freshTables freshDomains fresh isWays inLimits Row.asRead Row.matches Row.isHit Row.hitWay Row.hitAt Row.filled Row.vacant Row.fillAt Row.evictAt Row.accessBy Row.access Row.flushAt Row.flush Row.moved Row.without Row.wiped Row.dropped Row.droppedDirty Row.cleaned bit word any lowest count put reaches xor Tree.passes Tree.under Tree.holds Tree.free Tree.forcedRight Tree.walk Tree.walked Tree.victim Tree.touch Tree.changes Tree.reset Tree.shares
 case-f-g = record { f = refl; g = refl }

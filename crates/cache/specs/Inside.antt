@@ -2,18 +2,29 @@
 use mathlib.Core.Path.{_≡_}
 use mathlib.Core.Bool.{Bool, true, false, cond}
 use Prim.Native.Nat.{ℕ, _+_, _*_, _≤_, _<_}
+use lib.Dec.{eqb}
 use lib.ListN.{length}
 use Rattle.replacement.specs.Rule.{Rule, ruleOf}
 use Rattle.row.specs.Row.{Row, Effect, asRead, dropped, droppedDirty, cleaned}
 use Rattle.row.specs.Row as Row
 use Rattle.row.specs.Calls.{accessOf, flushOf}
+use Rattle.row.specs.Sweep.{sweepBy}
+use Rattle.row.specs.declared.Sweep.{Sweep}
 use Rattle.row.specs.declared.Maps.{Maps}
 use Rattle.row.specs.declared.Answer.{Answer}
 use Rattle.row.specs.declared.Answer.the-variants.{Hit, Fill, Evict, Pass, Flush, Absent, Policy, Refused}
+use Rattle.verdict.specs.Domains.{mapsOf}
+use Rattle.verdict.specs.Refusal.{newMaps, useRefusal}
+use Rattle.verdict.specs.Calls.{policyRefusalOf}
 use Rattle.verdict.specs.Inside.{Limited}
+use Rattle.verdict.specs.declared.Domain.{Domain}
+use Rattle.verdict.specs.declared.Policies.{Policies}
 use Rattle.verdict.specs.declared.Geometry.{Geometry}
 use Rattle.cache.specs.Geometry.{setOf, tagOf}
 use Rattle.cache.specs.Tables.{Tables, rowAt, putRow, eachSet, total}
+use Rattle.cache.specs.Domains.{counted}
+use Rattle.cache.specs.Step.{newDomain}
+use Rattle.cache.specs.declared.account.Used.{Used}
 use Rattle.cache.specs.declared.place.Place.{Place}
 use Rattle.cache.specs.declared.sets.Drops.{Drops}
 
@@ -67,18 +78,58 @@ dropsIn (Flush w dirty) = record { dropped = 0; dirty = 0 }
 dropsIn Absent = record { dropped = 0; dirty = 0 }
 dropsIn (Refused n) = record { dropped = 0; dirty = 0 }
 
--- What the cleaning of one set, or of the first n sets, leaves and tells.
-pub record Swept (g : Geometry) (old new : Maps) (s : ℕ) (before after : Tables) (d : Drops) : Type 0 where
-  pub tables-is : after ≡ putRow (g .ways) s (cleaned (ruleOf (g .rule) (g .ways)) (asRead (g .ways) old) (asRead (g .ways) new) (rowAt (g .ways) s before)) before
-  pub dropped-is : d .dropped ≡ dropped (asRead (g .ways) old) (asRead (g .ways) new) (rowAt (g .ways) s before)
-  pub dirty-is : d .dirty ≡ droppedDirty (asRead (g .ways) old) (asRead (g .ways) new) (rowAt (g .ways) s before)
+-- The drops of a sweep in a set.
+abbrev pub dropsOf : Sweep → Row → Drops
+dropsOf s r = dropsIn (sweepBy s r .answer)
 
-pub record AllSwept (g : Geometry) (old new : Maps) (n : ℕ) (before after : Tables) (drops dirt : ℕ) : Type 0 where
-  pub tables-is : after ≡ eachSet (g .ways) n (cleaned (ruleOf (g .rule) (g .ways)) (asRead (g .ways) old) (asRead (g .ways) new)) before
-  pub dropped-is : drops ≡ total (g .ways) n (dropped (asRead (g .ways) old) (asRead (g .ways) new)) before
-  pub dirty-is : dirt ≡ total (g .ways) n (droppedDirty (asRead (g .ways) old) (asRead (g .ways) new)) before
+-- What the sweep of one set, or of the first n sets, leaves and tells.
+pub record Swept (g : Geometry) (s : Sweep) (set : ℕ) (before after : Tables) (d : Drops) : Type 0 where
+  pub tables-is : after ≡ putRow (g .ways) set (sweepBy s (rowAt (g .ways) set before) .row) before
+  pub drops-is : d ≡ dropsOf s (rowAt (g .ways) set before)
+
+pub record AllSwept (g : Geometry) (s : Sweep) (n : ℕ) (before after : Tables) (drops dirt : ℕ) : Type 0 where
+  pub tables-is : after ≡ eachSet (g .ways) n (λ r. sweepBy s r .row) before
+  pub dropped-is : drops ≡ total (g .ways) n (λ r. dropsOf s r .dropped) before
+  pub dirty-is : dirt ≡ total (g .ways) n (λ r. dropsOf s r .dirty) before
 
 -- An access or a flush, under a rule.
 abbrev pub lineWork : Bool → Rule → Bool → Maps → ℕ → Row → Effect
 lineWork true R store = Row.flush
 lineWork false R store = λ p tag. Row.access R p tag store
+
+-- ---- A step of one domain
+
+-- A domain's record after an access or a flush.
+abbrev pub usedDomain : Answer → Domain → Domain
+usedDomain a x = record { hit = x .hit; fill = x .fill; counts = counted a (x .counts) }
+
+-- What a step answers, the record of the domain after it, and the tables.
+pub record Deed : Type 0 where
+  pub answer : Answer
+  pub own : Domain
+  pub tables : Tables
+
+abbrev pub deedOf : Used → Tables → Deed
+deedOf u t = record { answer = u .answer; own = u .own; tables = t }
+
+-- A number that is not 0 turns the step down, and nothing moves.
+unfoldable pub unless : ℕ → Domain → Tables → Deed → Deed
+unless n x t done = cond (eqb n 0) done (record { answer = Refused n; own = x; tables = t })
+
+unfoldable pub lineDeed : Geometry → Domain → Bool → Bool → ℕ → Tables → Deed
+lineDeed g x flushes store arg t =
+    let w = workAt g flushes store (mapsOf x) arg t in
+    unless (useRefusal (asRead (g .ways) (mapsOf x)) (x .counts)) x t
+    (record { answer = w .answer; own = usedDomain (w .answer) x; tables = w .tables })
+
+unfoldable pub policyDeed : Geometry → Domain → Policies → ℕ → ℕ → Tables → Deed
+policyDeed g x p d arg t =
+    let W = g .ways in
+    let old = asRead W (mapsOf x) in
+    let new = asRead W (newMaps arg) in
+    unless (policyRefusalOf g p d arg) x t
+    (record {
+      answer = Policy (total W (g .sets) (dropped old new) t) (total W (g .sets) (droppedDirty old new) t);
+      own = newDomain arg x;
+      tables = eachSet W (g .sets) (cleaned (ruleOf (g .rule) W) old new) t;
+    })

@@ -1,8 +1,7 @@
-// A domain's policy and counts: read, and put back after a step.
+// A domain's record after a step.
 use crate::Stepped;
 use crate::sets::Drops;
 use row::Answer;
-use row::Maps;
 use verdict::Counts;
 use verdict::Domain;
 use verdict::Domains;
@@ -12,9 +11,16 @@ ghost use Prim.Native.Nat.{_+_, _<_};
 ghost use lib.Dec.{eqb};
 ghost use Rattle.waymap.specs.Bits.{digit};
 ghost use Rattle.row.specs.declared.Answer.the-variants.{Policy, Refused};
-ghost use Rattle.verdict.specs.Domains.{noCounts, domainOf, isFull};
+ghost use Rattle.verdict.specs.Domains.{noCounts, isFull};
 ghost use Rattle.cache.specs.Domains.{putDomain, counted as countedBy};
+ghost use Rattle.cache.specs.Inside.{usedDomain};
 ghost use Rattle.cache.specs.Step.{newDomain};
+
+// What a step answers, and the record of the domain after it.
+pub struct Used {
+    pub answer: Answer,
+    pub own: Domain,
+}
 
 // One more where the line is dirty.
 fn with_dirty(written: u32, dirty: bool) -> u32
@@ -81,19 +87,50 @@ fn kept(c: Counts, argument: u64) -> Counts
     c
 }
 
-// A domain's maps as stored.
-pub fn maps_of(domains: Domains, d: usize) -> Maps
-    requires { ⌜ d < 16 ⌝ }
-    ensures { λ r. ⌜ r ≡ record { hit = domainOf domains d .hit; fill = domainOf domains d .fill } ⌝ }
+// A step turned down: nothing of the domain moves.
+pub fn turned_down(number: usize, own: Domain) -> Used
+    ensures { λ r. ⌜ r ≡ record { answer = Refused number; own = own } ⌝ }
 {
-    let own = domains.records[d];
-    Maps {
-        hit: own.hit,
-        fill: own.fill,
+    Used {
+        answer: Answer::Refused(number),
+        own,
     }
 }
 
-// After a refusal.
+// After an access or a flush.
+pub fn after_use(own: Domain, answer: Answer) -> Used
+    requires { ⌜ isFull (own .counts) ≡ false ⌝ }
+    ensures { λ r. ⌜ r ≡ record { answer = answer; own = usedDomain answer own } ⌝ }
+{
+    Used {
+        answer,
+        own: Domain {
+            hit: own.hit,
+            fill: own.fill,
+            counts: counted(answer, own.counts),
+        },
+    }
+}
+
+// After a change of policy.
+pub fn after_change(own: Domain, argument: u64, drops: Drops) -> Used
+    ensures { λ r. ⌜ r ≡ record { answer = Policy (drops .dropped) (drops .dirty); own = newDomain argument own } ⌝ }
+{
+    let new = verdict::new_maps(argument);
+    Used {
+        answer: Answer::Policy {
+            dropped: drops.dropped,
+            dirty: drops.dirty,
+        },
+        own: Domain {
+            hit: new.hit,
+            fill: new.fill,
+            counts: kept(own.counts, argument),
+        },
+    }
+}
+
+// A step turned down before a domain is looked at.
 pub fn refused(number: usize, domains: Domains) -> Stepped
     ensures { λ r. ⌜ r ≡ record { answer = Refused number; domains = domains } ⌝ }
 {
@@ -103,43 +140,16 @@ pub fn refused(number: usize, domains: Domains) -> Stepped
     }
 }
 
-// After an access or a flush.
-pub fn used(domains: Domains, d: usize, answer: Answer) -> Stepped
+// The record of the domain that stepped, put back.
+pub fn put_back(mut domains: Domains, d: usize, used: Used) -> Stepped
     requires { ⌜ d < 16 ⌝ }
-    requires { ⌜ isFull (domainOf domains d .counts) ≡ false ⌝ }
-    ensures { λ r. ⌜ r ≡ record { answer = answer; domains = putDomain d (record { hit = domainOf domains d .hit; fill = domainOf domains d .fill; counts = countedBy answer (domainOf domains d .counts) }) domains } ⌝ }
+    ensures { λ r. ⌜ r ≡ record { answer = used .answer; domains = putDomain d (used .own) domains } ⌝ }
 {
-    let own = domains.records[d];
-    let mut next = domains;
-    next.records[d] = Domain {
-        hit: own.hit,
-        fill: own.fill,
-        counts: counted(answer, own.counts),
-    };
+    let answer = used.answer;
+    let own = used.own;
+    domains.records[d] = own;
     Stepped {
         answer,
-        domains: next,
-    }
-}
-
-// After a change of policy.
-pub fn changed(domains: Domains, d: usize, argument: u64, drops: Drops) -> Stepped
-    requires { ⌜ d < 16 ⌝ }
-    ensures { λ r. ⌜ r ≡ record { answer = Policy (drops .dropped) (drops .dirty); domains = putDomain d (newDomain argument (domainOf domains d)) domains } ⌝ }
-{
-    let own = domains.records[d];
-    let new = verdict::new_maps(argument);
-    let mut next = domains;
-    next.records[d] = Domain {
-        hit: new.hit,
-        fill: new.fill,
-        counts: kept(own.counts, argument),
-    };
-    Stepped {
-        answer: Answer::Policy {
-            dropped: drops.dropped,
-            dirty: drops.dirty,
-        },
-        domains: next,
+        domains,
     }
 }

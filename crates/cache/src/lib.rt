@@ -3,6 +3,7 @@ mod account;
 mod fresh;
 mod place;
 mod sets;
+mod work;
 
 use row::Answer;
 use verdict::Asked;
@@ -32,34 +33,31 @@ pub fn step(
     kind: u8,
     argument: u64,
 ) -> Stepped
-    ensures { λ r. ⌜ outcome r (tablesOf (now (tags .exit)) (now (valid .exit)) (now (dirty .exit)) (now (words .exit))) ≡ stepOf g domain kind argument (record { tables = tablesOf (now (tags .entry)) (now (valid .entry)) (now (dirty .entry)) (now (words .entry)); domains = domains }) ⌝ }
+    ensures {
+        λ r.
+        ⌜ outcome r (tablesOf (now (tags .exit)) (now (valid .exit)) (now (dirty .exit)) (now (words .exit)))
+        ≡ stepOf g domain kind argument
+        (record { tables = tablesOf (now (tags .entry)) (now (valid .entry)) (now (dirty .entry)) (now (words .entry)); domains = domains }) ⌝
+    }
 {
-    let number = verdict::refusal(
-        g,
-        tags.len(),
-        valid.len(),
-        dirty.len(),
-        words.len(),
-        domains,
-        domain,
-        kind,
-        argument,
-    );
+    let number = verdict::sizes(g, tags.len(), valid.len(), dirty.len(), words.len());
     if number != 0 {
         return account::refused(number, domains);
     }
+    if 16 <= domain {
+        return account::refused(3, domains);
+    }
+    let own = domains.records[domain];
     let asked = verdict::kind_of(kind);
     match asked {
         Asked::Line { flush, store } => {
-            let maps = account::maps_of(domains, domain);
-            let answer = sets::use_set(g, tags, valid, dirty, words, maps, flush, store, argument);
-            account::used(domains, domain, answer)
+            let used = work::line(g, tags, valid, dirty, words, own, flush, store, argument);
+            account::put_back(domains, domain, used)
         }
         Asked::Policy => {
-            let old = account::maps_of(domains, domain);
-            let new = verdict::new_maps(argument);
-            let drops = sets::sweep_sets(g, tags, valid, dirty, words, old, new);
-            account::changed(domains, domain, argument, drops)
+            let policies = verdict::policies_of(domains);
+            let used = work::policy(g, tags, valid, dirty, words, own, policies, domain, argument);
+            account::put_back(domains, domain, used)
         }
         Asked::Unknown => account::refused(4, domains),
     }
@@ -73,7 +71,11 @@ pub fn fresh_tables(
     dirty: &mut [u16],
     words: &mut [u64],
 ) -> usize
-    ensures { λ r. ⌜ madeOf r (tablesOf (now (tags .exit)) (now (valid .exit)) (now (dirty .exit)) (now (words .exit))) ≡ freshOf g (tablesOf (now (tags .entry)) (now (valid .entry)) (now (dirty .entry)) (now (words .entry))) ⌝ }
+    ensures {
+        λ r.
+        ⌜ madeOf r (tablesOf (now (tags .exit)) (now (valid .exit)) (now (dirty .exit)) (now (words .exit)))
+        ≡ freshOf g (tablesOf (now (tags .entry)) (now (valid .entry)) (now (dirty .entry)) (now (words .entry))) ⌝
+    }
 {
     let number = verdict::sizes(g, tags.len(), valid.len(), dirty.len(), words.len());
     if number != 0 {

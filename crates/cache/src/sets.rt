@@ -4,6 +4,7 @@ use row::Answer;
 use row::Done;
 use row::Lines;
 use row::Maps;
+use row::Sweep;
 use verdict::Geometry;
 ghost use mathlib.Core.Path.{_≡_};
 ghost use Prim.Native.Nat.{_<_};
@@ -42,7 +43,11 @@ pub fn use_set(
     address: u64,
 ) -> Answer
     requires { ⌜ Shaped g (tablesOf (now tags) (now valid) (now dirty) (now words)) ⌝ }
-    ensures { λ r. ⌜ RowWork r (tablesOf (now (tags .exit)) (now (valid .exit)) (now (dirty .exit)) (now (words .exit))) (workAt g flush store maps address (tablesOf (now (tags .entry)) (now (valid .entry)) (now (dirty .entry)) (now (words .entry)))) ⌝ }
+    ensures {
+        λ r.
+        ⌜ RowWork r (tablesOf (now (tags .exit)) (now (valid .exit)) (now (dirty .exit)) (now (words .exit)))
+        (workAt g flush store maps address (tablesOf (now (tags .entry)) (now (valid .entry)) (now (dirty .entry)) (now (words .entry)))) ⌝
+    }
 {
     let found = place::place_of(g, address);
     let set = found.set;
@@ -95,13 +100,16 @@ fn sweep_set(
     valid: &mut [u16],
     dirty: &mut [u16],
     words: &mut [u64],
-    old: Maps,
-    new: Maps,
+    sweep: Sweep,
     set: usize,
 ) -> Drops
     requires { ⌜ Shaped g (tablesOf (now tags) (now valid) (now dirty) (now words)) ⌝ }
     requires { ⌜ set < g .sets ⌝ }
-    ensures { λ r. ⌜ Swept g old new set (tablesOf (now (tags .entry)) (now (valid .entry)) (now (dirty .entry)) (now (words .entry))) (tablesOf (now (tags .exit)) (now (valid .exit)) (now (dirty .exit)) (now (words .exit))) r ⌝ }
+    ensures {
+        λ r.
+        ⌜ Swept g sweep set (tablesOf (now (tags .entry)) (now (valid .entry)) (now (dirty .entry)) (now (words .entry)))
+        (tablesOf (now (tags .exit)) (now (valid .exit)) (now (dirty .exit)) (now (words .exit))) r ⌝
+    }
 {
     let span = place::span_of(g, set);
     let start = span.start;
@@ -111,7 +119,7 @@ fn sweep_set(
         dirty: dirty[set],
         word: words[set],
     };
-    let done = row::clean(&mut tags[start..stop], lines, g.rule, old, new);
+    let done = row::swept(&mut tags[start..stop], lines, sweep);
     let left = done.lines;
     valid[set] = left.valid;
     dirty[set] = left.dirty;
@@ -127,18 +135,21 @@ pub fn sweep_sets(
     valid: &mut [u16],
     dirty: &mut [u16],
     words: &mut [u64],
-    old: Maps,
-    new: Maps,
+    sweep: Sweep,
 ) -> Drops
     requires { ⌜ Shaped g (tablesOf (now tags) (now valid) (now dirty) (now words)) ⌝ }
-    ensures { λ r. ⌜ AllSwept g old new (g .sets) (tablesOf (now (tags .entry)) (now (valid .entry)) (now (dirty .entry)) (now (words .entry))) (tablesOf (now (tags .exit)) (now (valid .exit)) (now (dirty .exit)) (now (words .exit))) (r .dropped) (r .dirty) ⌝ }
+    ensures {
+        λ r.
+        ⌜ AllSwept g sweep (g .sets) (tablesOf (now (tags .entry)) (now (valid .entry)) (now (dirty .entry)) (now (words .entry)))
+        (tablesOf (now (tags .exit)) (now (valid .exit)) (now (dirty .exit)) (now (words .exit))) (r .dropped) (r .dirty) ⌝
+    }
 {
     let sets = g.sets;
     let mut dropped = 0;
     let mut dirt = 0;
     let mut set = 0;
     while set < sets {
-        let drops = sweep_set(g, tags, valid, dirty, words, old, new, set);
+        let drops = sweep_set(g, tags, valid, dirty, words, sweep, set);
         dropped = dropped + drops.dropped;
         dirt = dirt + drops.dirty;
         set = set + 1;

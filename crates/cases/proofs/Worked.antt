@@ -3,10 +3,11 @@ use mathlib.Core.Path.{_≡_, refl}
 use mathlib.Core.Bool.{xor}
 use mathlib.Core.List.{List, map}
 use Prim.Native.Nat.{ℕ}
-use Rattle.replacement.specs.Nru as Nru
+use Rattle.nru.specs.Nru as Nru
 use Rattle.waymap.specs.Bits.{bit, word, any, lowest, count, put, reaches}
-use Rattle.replacement.specs.Tree as Tree
-use Rattle.replacement.specs.Calls.{isWays, inLimits}
+use Rattle.tree.specs.Tree as Tree
+use Rattle.waymap.specs.Ways.{isWays}
+use Rattle.replacement.specs.Calls.{inLimits}
 use Rattle.row.specs.Row as Row
 use Rattle.verdict.specs.Geometry.{isPower, within, sized}
 use Rattle.verdict.specs.Domains.{domainOf, policies, isFull}
@@ -20,5 +21,5 @@ use Rattle.cache.specs.Fresh.{freshTables, freshDomains, fresh}
 use Rattle.cases.specs.Cases.{Case, cases}
 
 pub worked : (u : ℕ) → map (λ (c : Case). c .given) (cases u) ≡ map (λ (c : Case). c .printed) (cases u)
-unfolding answersOf step decided stepBy changePolicy newDomain useLine rowEffect onSet refusal refusalBy policyRefusal useRefusal sharesNode sharesWay badArgument newMaps kindOf counted isFull policies putDomain domainOf total eachSet putRow rowAt sized tagOf setOf within isPower freshTables freshDomains fresh isWays inLimits Row.asRead Row.matches Row.isHit Row.hitWay Row.hitAt Row.filled Row.vacant Row.fillAt Row.evictAt Row.accessBy Row.access Row.moved Row.without Row.wiped Row.dropped Row.droppedDirty Row.cleaned bit word any lowest count put reaches xor Tree.passes Tree.under Tree.holds Tree.free Tree.forcedRight Tree.walk Tree.walked Tree.victim Tree.touch Tree.reset Tree.shares Nru.victim Nru.before Nru.touch cases
+unfolding answersOf step decided stepBy changePolicy newDomain useLine rowEffect onSet refusal refusalBy policyRefusal useRefusal sharesNode sharesWay badArgument newMaps kindOf counted isFull policies putDomain domainOf total eachSet putRow rowAt sized tagOf setOf within isPower freshTables freshDomains fresh isWays inLimits Row.asRead Row.matches Row.isHit Row.hitWay Row.hitAt Row.filled Row.vacant Row.fillAt Row.evictAt Row.accessBy Row.access Row.moved Row.without Row.wiped Row.dropped Row.droppedDirty Row.cleaned bit word any lowest count put reaches xor Tree.passes Tree.under Tree.holds Tree.free Tree.forcedRight Tree.walk Tree.walked Tree.victim Tree.touch Tree.changes Tree.reset Tree.shares Nru.victim Nru.before Nru.touch cases
 worked u = refl

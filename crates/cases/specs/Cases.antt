@@ -4,7 +4,7 @@ use mathlib.Core.List.{List, [], _∷_, map}
 use Prim.Native.Nat.{ℕ, _+_, _*_}
 use lib.ListN.{getD}
 use Rattle.waymap.specs.Bits.{bit, word}
-use Rattle.replacement.specs.Tree as Tree
+use Rattle.tree.specs.Tree as Tree
 use Rattle.replacement.specs.Rule.{Rule, tree, nru}
 use Rattle.verdict.specs.declared.Geometry.{Geometry}
 use Rattle.command.specs.Command.{Command}

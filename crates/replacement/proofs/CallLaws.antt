@@ -1,65 +1,53 @@
--- What the public calls answer, by what their tests find.
+-- What the public calls answer, by what their tests find: one law a call, for every rule, and for each rule what its crate gives.
 use mathlib.Core.Path.{_≡_, refl, sym, ap, ap₂, _∙_}
-use mathlib.Core.Logic.{_⊎_, inl, inr}
 use mathlib.Core.Bool.{Bool, true, false, not, _&&_, _||_, cond}
 use mathlib.Core.List.{[], _∷_}
 use Prim.Native.Nat.{ℕ, zero, suc, _^_, _≤_, _<_}
 use native.Mathlib.Omega.{arith}
-use lib.Dec.{eqb, ltb}
+use lib.Dec.{ltb}
 use lib.Bits.{bitOr}
-use lib.Pow.{pow-mono}
-use borrow.Author.Tests.{eqb-true, ne-eqb, ltb-true, lt-ltb}
+use borrow.Author.Tests.{ne-eqb, ltb-true, lt-ltb, not-true}
 use Rattle.waymap.specs.Bits.{bit, word, any, reaches}
-use Rattle.waymap.proofs.Booleans.{and-left, and-right, or-none}
-use Rattle.waymap.proofs.WayLaws.{any-found, any-bits, any-wider}
+use Rattle.waymap.specs.Ways.{isWays, takes, Sized}
+use Rattle.waymap.proofs.Booleans.{cases, and-left, and-right, or-none}
+use Rattle.waymap.proofs.WayLaws.{any-bits, any-wider}
 use Rattle.waymap.proofs.WordLaws.{bit-high}
 use Rattle.waymap.proofs.MapLaws.{below-reach, reach-or}
-use Rattle.replacement.specs.Tree as Tree
-use Rattle.replacement.specs.Nru as Nru
-use Rattle.replacement.specs.Rule.{Rule, ruleOf}
-use Rattle.replacement.specs.Calls.{Result, isWays, inLimits, checked, victimOf, touchOf, resetOf, freshOf, sharesOf}
-use Rattle.replacement.specs.Inside.{Sized, ChoiceOf}
-use Rattle.replacement.specs.declared.nru.Choice.{Choice}
-use Rattle.replacement.proofs.NruLaws.{ready}
-use Rattle.replacement.proofs.NruWordLaws.{word-width, victim-width}
+use Rattle.waymap.proofs.NumberLaws as NumberLaws
+use Rattle.tree.specs.Calls as Tree
+use Rattle.tree.proofs.TreeWordLaws as TreeLaws
+use Rattle.nru.specs.Calls as Nru
+use Rattle.nru.specs.declared.Choice.{Choice}
+use Rattle.nru.proofs.NruWordLaws as NruLaws
+use Rattle.replacement.specs.Rule.{Rule, tree, nru, ruleOf}
+use Rattle.replacement.specs.Calls.{inLimits, victimOf, touchOf, resetOf, freshOf, sharesOf}
+use Rattle.replacement.specs.Change.{changeOf, changeUnder, changeBy}
+use Rattle.replacement.specs.declared.Change.{Change}
 
 -- ---- the limits
 
-pub is-ways : (W : ℕ) → (W ≡ 2) ⊎ ((W ≡ 4) ⊎ ((W ≡ 8) ⊎ (W ≡ 16))) → isWays W ≡ true
-unfolding isWays any
-is-ways W (inl e) = rw e
-is-ways W (inr (inl e)) = rw e
-is-ways W (inr (inr (inl e))) = rw e
-is-ways W (inr (inr (inr e))) = rw e
+module _ (W rule : ℕ) (limits : inLimits W rule ≡ true) where
+  pub ways : isWays W ≡ true
+  unfolding inLimits
+  ways = and-left (isWays W) (ltb rule 2) limits
 
-pub not-ways : (W : ℕ) → ((W ≡ 2) ⊎ ((W ≡ 4) ⊎ ((W ≡ 8) ⊎ (W ≡ 16))) → ⊥) → isWays W ≡ false
-unfolding isWays any
-not-ways W no-one =
-    rw (ne-eqb W 2 (λ e. no-one (inl e)), ne-eqb W 4 (λ e. no-one (inr (inl e))), ne-eqb W 8 (λ e. no-one (inr (inr (inl e)))), ne-eqb W 16 (λ e. no-one (inr (inr (inr e)))))
+  pub sized : Sized W
+  sized = NumberLaws.sized W ways
 
--- what is within the limits is a power of two from 2 to 16
-pub sized : (W rule : ℕ) → inLimits W rule ≡ true → Sized W
-unfolding inLimits isWays
-sized W rule e = of-power (any-found 4 (λ (k : ℕ). eqb W (2 ^ suc k)) (and-left (isWays W) (ltb rule 2) e))
-  where
-    of-power : (k : ℕ) × (k < 4) × (eqb W (2 ^ suc k) ≡ true) → Sized W
-    of-power r =
-        let power : W ≡ 2 ^ suc (r .0) = eqb-true W (2 ^ suc (r .0)) (r .2) in
-        record {
-          depth = r .0;
-          power = power;
-          least = rw power (pow-mono {i = 1} {j = suc (r .0)} (omega arith));
-          most = rw power (pow-mono {i = suc (r .0)} {j = 4} (r .1));
-        }
+  -- a rule within the limits that is not 0 is 1
+  pub one : (rule ≡ 0 → ⊥) → rule ≡ 1
+  unfolding inLimits
+  one n = omega (arith, ltb-true rule 2 (and-right (isWays W) (ltb rule 2) limits), n)
 
--- a rule within the limits that is not 0 is 1
-rule-one : (W rule : ℕ) → inLimits W rule ≡ true → (rule ≡ 0 → ⊥) → rule ≡ 1
-unfolding inLimits
-rule-one W rule e n = omega (arith, ltb-true rule 2 (and-right (isWays W) (ltb rule 2) e), n)
+  pub is-tree : rule ≡ 0 → tree W ≡ ruleOf rule W
+  is-tree z = ap (λ (r : ℕ). ruleOf r W) (sym z)
+
+  pub is-nru : (rule ≡ 0 → ⊥) → nru W ≡ ruleOf rule W
+  is-nru n = ap (λ (r : ℕ). ruleOf r W) (sym (one n))
 
 -- ---- maps
 
-some-way : (map : ℕ) → map < 2 ^ 16 → (map ≡ 0 → ⊥) → any 16 (bit map) ≡ true
+pub some-way : (map : ℕ) → map < 2 ^ 16 → (map ≡ 0 → ⊥) → any 16 (bit map) ≡ true
 some-way map h n = any-bits 16 map h ∙ ap not (ne-eqb map 0 n)
 
 pub either-reach : (W a b : ℕ) → (not (reaches W a) && not (reaches W b)) ≡ not (reaches W (bitOr a b))
@@ -69,74 +57,87 @@ either-reach W a b = flip (reaches W a) (reaches W b) ∙ ap not (sym (reach-or 
     flip true q = refl
     flip false q = refl
 
--- ---- the calls that are not refused, by rule
+-- two maps that do not reach W together do not reach it alone
+pub neither : (W a b : ℕ) → reaches W (bitOr a b) ≡ false → (reaches W a ≡ false) × (reaches W b ≡ false)
+neither W a b e = or-none (reaches W a) (reaches W b) (sym (reach-or W a b) ∙ e)
 
-module _ (W rule x map : ℕ) (limits : inLimits W rule ≡ true) (h : map < 2 ^ 16) (reach : reaches W map ≡ false) where
-  within : map < 2 ^ W
-  within = below-reach W map h reach
+-- ---- a call that is not refused gives what the rule gives
 
-  pub tree-victim : {way : ℕ} → (map ≡ 0 → ⊥) → rule ≡ 0 → way ≡ Tree.victim W (bit map) (bit x)
-      → record { answer = 0 ∷ way ∷ []; word = x } ≡ victimOf W rule x map
+module _ (W rule x map : ℕ) (limits : inLimits W rule ≡ true) (reach : reaches W map ≡ false) where
+  pub victim-given : {way y : ℕ} → any 16 (bit map) ≡ true → way ≡ ruleOf rule W .victim map x → y ≡ ruleOf rule W .before map x
+      → record { answer = 0 ∷ way ∷ []; word = y } ≡ victimOf W rule x map
   unfolding victimOf
-  tree-victim full z e = rw (limits, reach, some-way map h full, z, e)
+  victim-given some e f = rw (limits, reach, some, e, f)
 
-  pub nru-victim : (c : Choice) → (map ≡ 0 → ⊥) → (rule ≡ 0 → ⊥) → ChoiceOf (bit map) (bit x) c
-      → record { answer = 0 ∷ c .way ∷ []; word = c .word } ≡ victimOf W rule x map
-  unfolding victimOf
-  nru-victim c full n e = rw (limits, reach, some-way map h full, rule-one W rule limits n) (λ i. record { answer = 0 ∷ way i ∷ []; word = word64 i })
-    where
-      small : W ≤ 16
-      small = sized W rule limits .most
-
-      in-ways : any W (bit map) ≡ true
-      in-ways = sym (any-wider W 16 (bit map) small (λ i k. bit-high W map i within k)) ∙ some-way map h full
-
-      way : c .way ≡ Nru.victim W (bit map) (bit x)
-      way = e .way-is ∙ victim-width W map x small within (ready W (bit map) (bit x) in-ways)
-
-      word64 : c .word ≡ word 64 (Nru.before W (bit map) (bit x))
-      word64 = e .word-is ∙ word-width W map x small within
-
-  pub tree-touch : (way : ℕ) {y : ℕ} → way < W → rule ≡ 0 → y ≡ word 64 (Tree.touch W (bit map) way (bit x))
-      → record { answer = 0 ∷ []; word = y } ≡ touchOf W rule x map way
+  pub touch-given : (way : ℕ) {y : ℕ} → way < W → y ≡ ruleOf rule W .touch map way x → record { answer = 0 ∷ []; word = y } ≡ touchOf W rule x map way
   unfolding touchOf
-  tree-touch way k z e = rw (limits, reach, lt-ltb way W k, z, e)
+  touch-given way h e = rw (limits, reach, lt-ltb way W h, e)
 
-  pub nru-touch : (way : ℕ) {y : ℕ} → way < W → (rule ≡ 0 → ⊥) → y ≡ word 64 (Nru.touch (bit map) way (bit x))
-      → record { answer = 0 ∷ []; word = y } ≡ touchOf W rule x map way
-  unfolding touchOf
-  nru-touch way k n e = rw (limits, reach, lt-ltb way W k, rule-one W rule limits n, e)
-
-module _ (W rule x a b : ℕ) (limits : inLimits W rule ≡ true) (reach : reaches W (bitOr a b) ≡ false) where
-  apart : (not (reaches W a) && not (reaches W b)) ≡ true
-  apart = either-reach W a b ∙ ap not reach
-
-  pub first-within : a < 2 ^ 16 → a < 2 ^ W
-  first-within h = below-reach W a h (or-none (reaches W a) (reaches W b) (sym (reach-or W a b) ∙ reach) .0)
-
-  pub second-within : b < 2 ^ 16 → b < 2 ^ W
-  second-within h = below-reach W b h (or-none (reaches W a) (reaches W b) (sym (reach-or W a b) ∙ reach) .1)
-
-  pub tree-reset : {y : ℕ} → rule ≡ 0 → y ≡ word 64 (Tree.reset W (bit a) (bit b) (bit x)) → record { answer = 0 ∷ []; word = y } ≡ resetOf W rule x a b
-  unfolding resetOf
-  tree-reset z e = rw (limits, apart, z, e)
-
-  pub nru-reset : {y : ℕ} → (rule ≡ 0 → ⊥) → y ≡ word 64 (Nru.reset (bit a) (bit b) (bit x)) → record { answer = 0 ∷ []; word = y } ≡ resetOf W rule x a b
-  unfolding resetOf
-  nru-reset n e = rw (limits, apart, rule-one W rule limits n, e)
-
-  pub tree-shares : {s : Bool} → rule ≡ 0 → s ≡ Tree.shares W (bit a) (bit b) → cond s 9 0 ∷ [] ≡ sharesOf W rule a b
-  unfolding sharesOf
-  tree-shares z e = rw (limits, apart, z, e)
-
-  pub nru-shares : (rule ≡ 0 → ⊥) → 0 ∷ [] ≡ sharesOf W rule a b
-  unfolding sharesOf
-  nru-shares n = rw (limits, apart, rule-one W rule limits n)
-
-pub tree-fresh : (W rule : ℕ) → inLimits W rule ≡ true → rule ≡ 0 → record { answer = 0 ∷ []; word = 0 } ≡ freshOf W rule
+pub fresh-given : (W rule : ℕ) {y : ℕ} → inLimits W rule ≡ true → y ≡ ruleOf rule W .fresh → record { answer = 0 ∷ []; word = y } ≡ freshOf W rule
 unfolding freshOf
-tree-fresh W rule e z = rw (e, z)
+fresh-given W rule limits e = rw (limits, e)
 
-pub nru-fresh : (W rule : ℕ) {y : ℕ} → inLimits W rule ≡ true → (rule ≡ 0 → ⊥) → y ≡ word 64 (Nru.fresh W) → record { answer = 0 ∷ []; word = y } ≡ freshOf W rule
-unfolding freshOf
-nru-fresh W rule e n f = rw (e, rule-one W rule e n, f)
+module _ (W rule a b : ℕ) (limits : inLimits W rule ≡ true) (reach : reaches W (bitOr a b) ≡ false) where
+  pub shares-given : {s : Bool} → s ≡ ruleOf rule W .shares a b → cond s 9 0 ∷ [] ≡ sharesOf W rule a b
+  unfolding sharesOf
+  shares-given e = rw (limits, either-reach W a b ∙ ap not reach, e)
+
+-- ---- Tree-PLRU
+
+module _ (W : ℕ) (w : isWays W ≡ true) where
+  tree-takes : (map : ℕ) → reaches W map ≡ false → takes W map ≡ true
+  tree-takes map r = NumberLaws.takes-both W map w r
+
+  pub tree-victim : (x map : ℕ) → reaches W map ≡ false → Tree.victimOf W x map ≡ tree W .victim map x
+  unfolding Tree.victimOf
+  tree-victim x map r = rw (tree-takes map r)
+
+  pub tree-touch : (x map way : ℕ) → reaches W map ≡ false → way < W → Tree.touchOf W x map way ≡ tree W .touch map way x
+  unfolding Tree.touchOf
+  tree-touch x map way r h = rw (tree-takes map r, lt-ltb way W h)
+
+  pub tree-shares : (a b : ℕ) → reaches W (bitOr a b) ≡ false → Tree.sharesOf W a b ≡ tree W .shares a b
+  unfolding Tree.sharesOf
+  tree-shares a b r = rw (tree-takes a (neither W a b r .0), tree-takes b (neither W a b r .1))
+
+  pub tree-reset : (x a b : ℕ) → reaches W a ≡ false → reaches W b ≡ false → Tree.resetOf x (Tree.changeOf W a b) ≡ tree W .reset a b x
+  tree-reset x a b r q = TreeLaws.change-resets W a b x (tree-takes a r) (tree-takes b q)
+
+-- ---- NRU
+
+module _ (W : ℕ) (w : isWays W ≡ true) where
+  pub nru-victim : (x map : ℕ) → map < 2 ^ 16 → reaches W map ≡ false → any 16 (bit map) ≡ true
+      → Nru.victimOf x map ≡ record { way = nru W .victim map x; word = nru W .before map x }
+  nru-victim x map h r some =
+      let small : W ≤ 16 = NumberLaws.sized W w .most in
+      let within : map < 2 ^ W = below-reach W map h r in
+      NruLaws.choice-width W map x small within (sym (any-wider W 16 (bit map) small (λ i k. bit-high W map i within k)) ∙ some)
+
+  pub nru-fresh : Nru.freshOf W ≡ nru W .fresh
+  nru-fresh = NruLaws.fresh-word W (NumberLaws.sized W w .most)
+
+-- ---- a change of fill map, worked out first and then done, is the rule's
+
+pub change-resets : (W rule x old new : ℕ) → old < 2 ^ 16 → new < 2 ^ 16 → changeBy (changeOf W rule old new) x ≡ resetOf W rule x old new .word
+unfolding changeOf resetOf
+change-resets W rule x old new h k =
+    cases (inLimits W rule)
+    (λ t. cases (not (reaches W old) && not (reaches W new))
+    (λ u.
+    let first = not-true (reaches W old) (and-left (not (reaches W old)) (not (reaches W new)) u) in
+    let second = not-true (reaches W new) (and-right (not (reaches W old)) (not (reaches W new)) u) in
+    rw (t, u) (under rule (ways W rule t) first second))
+    (λ u. rw (t, u)))
+    (λ t. rw t)
+  where
+    under : (r : ℕ) → isWays W ≡ true → reaches W old ≡ false → reaches W new ≡ false → changeBy (changeUnder r W old new) x ≡ ruleOf r W .reset old new x
+    under zero w p q = tree-reset W w x old new p q
+    under (suc r) w p q = NruLaws.change-resets old new x h k
+
+pub reset-given : (W rule x old new : ℕ) {y : ℕ} → old < 2 ^ 16 → new < 2 ^ 16 → inLimits W rule ≡ true → reaches W (bitOr old new) ≡ false
+    → y ≡ changeBy (changeOf W rule old new) x → record { answer = 0 ∷ []; word = y } ≡ resetOf W rule x old new
+unfolding resetOf
+reset-given W rule x old new {y} h k limits r e =
+    let within : (not (reaches W old) && not (reaches W new)) ≡ true = either-reach W old new ∙ ap not r in
+    let done : changeBy (changeOf W rule old new) x ≡ ruleOf rule W .reset old new x = rw (limits, within) at (change-resets W rule x old new h k) in
+    rw (limits, within, e, done)

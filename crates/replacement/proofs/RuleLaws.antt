@@ -9,12 +9,12 @@ use Rattle.waymap.specs.Bits.{Bits, bit, word, any}
 use Rattle.waymap.proofs.Booleans.{cases, not-both}
 use Rattle.waymap.proofs.WordLaws.{bit-word}
 use Rattle.waymap.proofs.WayLaws.{none-at, any-ext, any-none}
-use Rattle.replacement.specs.Tree as Tree
-use Rattle.replacement.specs.Nru as Nru
+use Rattle.tree.specs.Tree as Tree
+use Rattle.tree.proofs.TreeLaws as TreeLaws
+use Rattle.nru.specs.Nru as Nru
+use Rattle.nru.proofs.NruLaws as NruLaws
 use Rattle.replacement.specs.Rule.{Rule, bit64, tree, nru, ruleOf}
 use Rattle.replacement.specs.Isolates.{Isolates, SameOwn, Apart}
-use Rattle.replacement.proofs.TreeLaws as TreeLaws
-use Rattle.replacement.proofs.NruLaws as NruLaws
 
 -- ---- the view of a 64-bit word
 
@@ -43,7 +43,7 @@ view-same f g i e = view-word f i ∙ ap (λ (b : Bool). ltb i 64 && b) e ∙ sy
 -- ---- Tree-PLRU
 
 pub tree-isolates : (W : ℕ) → W ≤ 64 → Isolates W (tree W)
-unfolding Tree.touch Tree.reset Tree.shares xor
+unfolding Tree.touch Tree.changes Tree.reset Tree.shares xor
 tree-isolates W bound = record {
   victim-in = λ map x e. TreeLaws.victim-in W (bit map) (bit x) e;
   victim-own = λ map x y same. TreeLaws.victim-free W (bit map) (λ i h t. view-bit x y i (omega arith) (same i t));
@@ -73,7 +73,7 @@ own-agree : (W map x y : ℕ) → W ≤ 64 → SameOwn (nru W) map x y → (w : 
 own-agree W map x y bound same w h t = view-bit x y w (omega arith) (same w t)
 
 pub nru-isolates : (W : ℕ) → W ≤ 64 → Isolates W (nru W)
-unfolding Nru.touch Nru.reset xor
+unfolding Nru.touch Nru.changes Nru.reset xor
 nru-isolates W bound = record {
   victim-in = λ map x e. NruLaws.victim-in W (bit map) (bit x) e;
   victim-own = λ map x y same. NruLaws.victim-agrees W (bit map) (own-agree W map x y bound same);

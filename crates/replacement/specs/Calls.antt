@@ -1,9 +1,10 @@
 -- What the public calls answer.
 use mathlib.Core.Bool.{Bool, true, false, cond, not, _&&_, _||_}
 use mathlib.Core.List.{List, [], _∷_}
-use Prim.Native.Nat.{ℕ, suc, _^_}
-use lib.Dec.{eqb, ltb}
+use Prim.Native.Nat.{ℕ}
+use lib.Dec.{ltb}
 use Rattle.waymap.specs.Bits.{bit, any, reaches}
+use Rattle.waymap.specs.Ways.{isWays}
 use Rattle.replacement.specs.Rule.{Rule, ruleOf}
 use Rattle.replacement.specs.declared.Reply.{Reply}
 use Rattle.replacement.specs.declared.Reply.the-variants.{Way, Done, OutsideLimits, OutOfReach, SharedNode}
@@ -24,10 +25,6 @@ pub record Result : Type 0 where
 
 abbrev pub result : Outcome → Result
 result r = record { answer = answerOf (r .reply); word = r .word }
-
--- "Ways W: 2, 4, 8 or 16."
-unfoldable pub isWays : ℕ → Bool
-isWays W = any 4 (λ k. eqb W (2 ^ suc k))
 
 -- "Rule: 0 Tree-PLRU, 1 NRU."
 unfoldable pub inLimits : ℕ → ℕ → Bool

@@ -1,7 +1,5 @@
 -- The replacement rules, without any cache above them: document 01, "The tree and the bits".
-pub mod Tree
-pub mod Nru
 pub mod Rule
 pub mod Isolates
 pub mod Calls
-pub mod Inside
+pub mod Change

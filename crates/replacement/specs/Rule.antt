@@ -3,8 +3,8 @@ use mathlib.Core.Bool.{Bool, false, _&&_}
 use Prim.Native.Nat.{ℕ, zero, suc}
 use lib.Dec.{ltb}
 use Rattle.waymap.specs.Bits.{Bits, bit, word}
-use Rattle.replacement.specs.Tree as Tree
-use Rattle.replacement.specs.Nru as Nru
+use Rattle.tree.specs.Tree as Tree
+use Rattle.nru.specs.Nru as Nru
 
 -- Maps and words are numbers here, a map of 16 bits and a word of 64.
 pub record Rule : Type 1 where

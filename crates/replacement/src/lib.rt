@@ -1,10 +1,8 @@
 // The replacement rules, Tree-PLRU and NRU, without any cache above them: a word and a map give a victim and the word before its touch;
 // a word, a map and a touched way give a new word.
-mod nru;
-mod tree;
-
 ghost use mathlib.Core.Path.{_≡_};
 ghost use Rattle.replacement.specs.Calls.{answerOf, result, inLimits, victimOf, touchOf, resetOf, freshOf, sharesOf};
+ghost use Rattle.replacement.specs.Change.{changeOf, changeBy};
 
 // The answer of a call: a way, or that the call is done, or why it is refused.
 pub enum Reply {
@@ -24,14 +22,24 @@ pub struct Outcome {
     pub word: u64,
 }
 
+// What a change of fill map does to a word.
+pub enum Change {
+    // These nodes become zero.
+    Clear(u64),
+    // The bits of these ways become one.
+    Raise(u64),
+    // The word stays as it is.
+    Stay,
+}
+
 // Whether the number of ways and the rule are within the limits.
 pub fn in_limits(ways: usize, rule: usize) -> bool
     ensures { λ r. ⌜ r ≡ inLimits ways rule ⌝ }
 {
-    match ways {
-        2 | 4 | 8 | 16 => rule < 2,
-        _ => false,
+    if waymap::is_ways(ways) {
+        return rule < 2;
     }
+    false
 }
 
 // The victim of a word and a fill map, with the word before its touch.
@@ -95,12 +103,39 @@ pub fn touch(ways: usize, rule: usize, word: u64, map: u16, way: usize) -> Outco
     if rule == 0 {
         return Outcome {
             reply: Reply::Done,
-            word: tree::touched(ways, word, map, way),
+            word: tree::touch(ways, word, map, way),
         };
     }
     Outcome {
         reply: Reply::Done,
-        word: nru::touched(word, map, way),
+        word: nru::touch(word, map, way),
+    }
+}
+
+// What a change of fill map does to every word, worked out from the maps alone; nothing where the call is refused.
+pub fn change_of(ways: usize, rule: usize, old: u16, new: u16) -> Change
+    ensures { λ r. ⌜ r ≡ changeOf ways rule old new ⌝ }
+{
+    if in_limits(ways, rule) {} else {
+        return Change::Stay;
+    }
+    if waymap::fits(old | new, ways) {} else {
+        return Change::Stay;
+    }
+    if rule == 0 {
+        return Change::Clear(tree::change(ways, old, new));
+    }
+    Change::Raise(nru::change(old, new))
+}
+
+// The word after such a change.
+pub fn changed(change: Change, word: u64) -> u64
+    ensures { λ r. ⌜ r ≡ changeBy change word ⌝ }
+{
+    match change {
+        Change::Clear(nodes) => tree::reset(word, nodes),
+        Change::Raise(ways) => nru::reset(word, ways),
+        Change::Stay => word,
     }
 }
 
@@ -120,15 +155,9 @@ pub fn reset(ways: usize, rule: usize, word: u64, old: u16, new: u16) -> Outcome
             word,
         };
     }
-    if rule == 0 {
-        return Outcome {
-            reply: Reply::Done,
-            word: tree::changed(ways, word, old, new),
-        };
-    }
     Outcome {
         reply: Reply::Done,
-        word: nru::changed(word, old, new),
+        word: changed(change_of(ways, rule, old, new), word),
     }
 }
 
@@ -167,7 +196,7 @@ pub fn conflict(ways: usize, rule: usize, map: u16, other: u16) -> Reply
     if rule != 0 {
         return Reply::Done;
     }
-    if tree::shared(ways, map, other) {
+    if tree::shares(ways, map, other) {
         return Reply::SharedNode;
     }
     Reply::Done

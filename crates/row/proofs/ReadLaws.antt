@@ -11,7 +11,7 @@ use Rattle.waymap.specs.Bits.{Bits, bit, word, reaches}
 use Rattle.waymap.proofs.BitLaws.{bit-and}
 use Rattle.waymap.proofs.WordLaws.{word-lt, bit-word, bit-word-in, from-bits, high-none}
 use Rattle.waymap.proofs.MapLaws.{reach-below}
-use Rattle.replacement.specs.Calls.{isWays, inLimits}
+use Rattle.replacement.specs.Calls.{inLimits}
 use Rattle.row.specs.Row.{asRead}
 use Rattle.row.specs.Inside.{Usable}
 use Rattle.row.specs.declared.Maps.{Maps}
@@ -48,15 +48,17 @@ fill-below W p =
     (λ i h. bit-word 16 (λ (w : ℕ). bit (p .fill) w && (bit (p .hit) w && ltb w W)) i
     ∙ rw (le-ltb i W h, and-false (bit (p .hit) i), and-false (bit (p .fill) i)) (and-false (ltb i 16)))
 
-pub hit-usable : (W rule : ℕ) (p : Maps) → inLimits W rule ≡ true → Usable W rule (asRead W p .hit)
+pub hit-small : (W : ℕ) (p : Maps) → asRead W p .hit < 2 ^ 16
 unfolding asRead
-hit-usable W rule p e = record { limits = e; within = reach-below W (asRead W p .hit) (hit-below W p); small = word-lt 16 (λ (w : ℕ). bit (p .hit) w && ltb w W) }
+hit-small W p = word-lt 16 (λ (w : ℕ). bit (p .hit) w && ltb w W)
+
+pub hit-usable : (W rule : ℕ) (p : Maps) → inLimits W rule ≡ true → Usable W rule (asRead W p .hit)
+hit-usable W rule p e = record { limits = e; within = reach-below W (asRead W p .hit) (hit-below W p); small = hit-small W p }
 
 pub fill-usable : (W rule : ℕ) (p : Maps) → inLimits W rule ≡ true → Usable W rule (asRead W p .fill)
 unfolding asRead
-fill-usable W rule p e = record { limits = e; within = reach-below W (asRead W p .fill) (fill-below W p); small = word-lt 16 (λ (w : ℕ). bit (p .fill) w && (bit (p .hit) w && ltb w W)) }
-
--- a number of ways alone is within the limits where it is with rule 0
-pub length-limits : (W : ℕ) → inLimits W 0 ≡ isWays W
-unfolding inLimits
-length-limits W = and-true (isWays W)
+fill-usable W rule p e = record {
+  limits = e;
+  within = reach-below W (asRead W p .fill) (fill-below W p);
+  small = word-lt 16 (λ (w : ℕ). bit (p .fill) w && (bit (p .hit) w && ltb w W));
+}

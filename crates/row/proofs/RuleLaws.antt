@@ -11,7 +11,7 @@ use Rattle.waymap.specs.Bits.{bit, any, reaches}
 use Rattle.waymap.proofs.WayLaws.{any-at, any-found}
 use Rattle.replacement.specs.Rule.{Rule, ruleOf}
 use Rattle.replacement.specs.Isolates.{Isolates}
-use Rattle.replacement.specs.Calls.{Result, answerOf, result, inLimits, victimOf, touchOf, resetOf}
+use Rattle.replacement.specs.Calls.{Result, answerOf, result, inLimits, victimOf, touchOf}
 use Rattle.replacement.specs.declared.Reply.{Reply}
 use Rattle.replacement.specs.declared.Reply.the-variants.{Way, Done, OutsideLimits, OutOfReach, SharedNode}
 use Rattle.replacement.specs.declared.Outcome.{Outcome}
@@ -27,10 +27,6 @@ most-ways W rule e = sized W rule e .most
 pub touch-gives : {W rule fill way : ℕ} (x : ℕ) (o : Outcome) → Usable W rule fill → way < W → result o ≡ touchOf W rule x fill way → o .word ≡ ruleOf rule W .touch fill way x
 unfolding touchOf
 touch-gives {W} {rule} {fill} {way} x o u h e = ap (λ (r : Result). r .word) (rw (u .limits, u .within, lt-ltb way W h) at e)
-
-pub reset-gives : {W rule old new : ℕ} (x : ℕ) (o : Outcome) → Usable W rule old → Usable W rule new → result o ≡ resetOf W rule x old new → o .word ≡ ruleOf rule W .reset old new x
-unfolding resetOf
-reset-gives x o u v e = ap (λ (r : Result). r .word) (rw (u .limits, u .within, v .within) at e)
 
 -- a map that has a way below W has one below 16
 within-16 : (W rule fill : ℕ) → inLimits W rule ≡ true → any W (bit fill) ≡ true → any 16 (bit fill) ≡ true

@@ -1,12 +1,12 @@
 -- What the steps on a set give, by what their tests find.
 use mathlib.Core.Path.{_≡_, refl, sym, ap, ap₂, fun-ext, _∙_}
-use mathlib.Core.Bool.{Bool, true, false, cond, not, _&&_, xor, and-true, false≢true}
+use mathlib.Core.Bool.{Bool, true, false, cond, not, _&&_, xor, and-true, and-false, false≢true}
 use mathlib.Core.List.{List, [], _∷_}
 use Prim.Native.Nat.{ℕ, zero, suc, _-_, _^_, _≤_, _<_}
 use native.Mathlib.Nat.{lt-of-le-of-lt, lt-of-lt-of-le, lt-irrefl}
 use native.Mathlib.Omega.{arith}
 use lib.Dec.{eqb, ltb}
-use lib.Bits.{bitAnd, bitXor, and-le-l}
+use lib.Bits.{bitAnd, bitXor, and-le-l, xor-lt}
 use lib.ListN.{length, getD, set}
 use borrow.Author.Tests.{ne-eqb, ltb-true, ltb-false, lt-ltb, le-ltb}
 use Rattle.waymap.specs.Bits.{Bits, bit, word, any, lowest, count, put, reaches}
@@ -16,16 +16,22 @@ use Rattle.waymap.proofs.WordLaws.{word-lt, bit-word, bit-word-in, from-bits, b
 use Rattle.waymap.proofs.WayLaws.{any-bits, any-lowest, any-ext, any-wider, none-at, lowest-ext, lowest-wider, lowest-none, lowest-found, count-ext, count-wider}
 use Rattle.waymap.proofs.MapLaws.{below-reach, none-empty}
 use Rattle.replacement.specs.Rule.{Rule, ruleOf}
-use Rattle.replacement.specs.Calls.{isWays, inLimits}
+use Rattle.waymap.specs.Ways.{isWays}
+use Rattle.replacement.specs.Calls.{inLimits, resetOf}
+use Rattle.replacement.specs.Change.{changeOf, changeBy}
+use Rattle.replacement.specs.declared.Change.{Change}
+use Rattle.replacement.proofs.CallLaws.{change-resets}
 use Rattle.row.specs.Row.{Row, Effect, ways, asRead, matches, isHit, hitWay, hitAt, vacant, filled, fillAt, evictAt, accessBy, access, flushAt, flush, moved, without, wiped, dropped, droppedDirty, cleaned, clean}
 use Rattle.row.specs.Calls.{rowOf, lookupOf}
-use Rattle.row.specs.Inside.{Usable, ChoiceOf, untagged, linesOf, missAt, SweptOf}
+use Rattle.row.specs.Sweep.{sweepOf, drops, sweptLines, sweepBy}
+use Rattle.row.specs.Inside.{Usable, ChoiceOf, untagged, linesOf, missAt}
 use Rattle.row.specs.declared.Maps.{Maps}
 use Rattle.row.specs.declared.Lines.{Lines}
 use Rattle.row.specs.declared.Answer.{Answer}
 use Rattle.row.specs.declared.Answer.the-variants.{Hit, Fill, Evict, Pass, Flush, Absent, Policy}
 use Rattle.row.specs.declared.rules.Choice.{Choice}
 use Rattle.row.proofs.RuleLaws.{most-ways}
+use Rattle.row.proofs.ReadLaws as ReadLaws
 
 -- ---- lookup
 
@@ -169,40 +175,78 @@ moved-within : (W : ℕ) (old new : Maps) → old .hit < 2 ^ W → new .hit < 2 
 unfolding moved xor
 moved-within W old new h k i l = rw (bit-high W (old .hit) i h l, bit-high W (new .hit) i k l)
 
-pub sweep-is : (rule : ℕ) (old new : Maps) (tags : List ℕ) (l k : Lines) {ts : List ℕ} {a : Answer} → length tags ≤ 16
-    → old .hit < 2 ^ length tags → new .hit < 2 ^ length tags
-    → a ≡ Policy (count 16 (λ (w : ℕ). bit (bitXor (old .hit) (new .hit)) w && bit (l .valid) w)) (count 16 (λ (w : ℕ). bit (bitXor (old .hit) (new .hit)) w && bit (l .valid) w && bit (l .dirty) w))
-    → SweptOf (length tags) rule (bitXor (old .hit) (new .hit)) (old .fill) (new .fill) l k
-    → ts ≡ wiped (bit (bitXor (old .hit) (new .hit))) tags
-    → record { answer = a; row = rowOf ts k } ≡ clean (ruleOf rule (length tags)) old new (rowOf tags l)
-unfolding clean cleaned dropped droppedDirty
-sweep-is rule old new tags l k {ts} {a} small h j e s t = λ i. record {
-  answer = answers i;
-  row = record { tags = tags-is i; valid = valid-is i; dirty = dirty-is i; word = s .word-is i };
-}
+-- what is worked out from the maps as read
+pub sweep-is : (W rule : ℕ) (old new : Maps) {was next : Maps} {change : Change} → was ≡ asRead W old → next ≡ asRead W new
+    → change ≡ changeOf W rule (was .fill) (next .fill) → record { gone = bitXor (was .hit) (next .hit); change = change } ≡ sweepOf W rule old new
+unfolding sweepOf
+sweep-is W rule old new e f g = rw (g, e, f) (ap (λ (n : ℕ). record { gone = n; change = changeOf W rule (asRead W old .fill) (asRead W new .fill) }) gone-is)
   where
-    gone : Bits
-    gone = moved old new
+    small : (p : Maps) → asRead W p .hit < 2 ^ 16
+    small p = ReadLaws.hit-small W p
 
-    beyond : (f : Bits) (i : ℕ) → length tags ≤ i → (gone i && f i) ≡ false
-    beyond f i q = rw (moved-within (length tags) old new h j i q)
+    gone-is : bitXor (asRead W old .hit) (asRead W new .hit) ≡ word 16 (moved (asRead W old) (asRead W new))
+    gone-is =
+        from-bits 16 (xor-lt 16 (asRead W old .hit) (asRead W new .hit) (small old) (small new))
+        (λ i h. ap (λ (f : Bits). f i) (moved-bits (asRead W old) (asRead W new)))
 
-    tags-is : ts ≡ wiped gone tags
-    tags-is = t ∙ ap (λ (f : Bits). wiped f tags) (moved-bits old new)
+-- The work that was worked out once is, on a set of W ways, what the rules say of a change of policy.
+module _ (rule : ℕ) (old new : Maps) (r : Row) (limits : inLimits (ways r) rule ≡ true) where
+  abbrev W : ℕ
+  W = ways r
 
-    valid-is : k .valid ≡ without gone (l .valid)
-    valid-is = s .valid-is ∙ ap (λ (f : Bits). without f (l .valid)) (moved-bits old new)
+  abbrev was : Maps
+  was = asRead W old
 
-    dirty-is : k .dirty ≡ without gone (l .dirty)
-    dirty-is = s .dirty-is ∙ ap (λ (f : Bits). without f (l .dirty)) (moved-bits old new)
+  abbrev next : Maps
+  next = asRead W new
 
-    answers : a ≡ Policy (count (length tags) (λ (w : ℕ). gone w && bit (l .valid) w)) (count (length tags) (λ (w : ℕ). gone w && bit (l .valid) w && bit (l .dirty) w))
-    answers =
-        e ∙ ap (λ (f : Bits). Policy (count 16 (λ (w : ℕ). f w && bit (l .valid) w)) (count 16 (λ (w : ℕ). f w && bit (l .valid) w && bit (l .dirty) w))) (moved-bits old new)
-        ∙ ap₂ Policy
-        (count-wider (length tags) 16 (λ (w : ℕ). gone w && bit (l .valid) w) small (beyond (bit (l .valid))))
-        (count-wider (length tags) 16 (λ (w : ℕ). gone w && bit (l .valid) w && bit (l .dirty) w) small
-        (λ i q. rw (moved-within (length tags) old new h j i q)))
+  abbrev gone : ℕ
+  gone = asRead W (record { hit = sweepOf W rule old new .gone; fill = 0 }) .hit
+
+  beyond : (i : ℕ) → W ≤ i → moved was next i ≡ false
+  beyond = moved-within W was next (ReadLaws.hit-below W old) (ReadLaws.hit-below W new)
+
+  -- the ways that are cleaned are those that move
+  gone-is : bit gone ≡ moved was next
+  unfolding asRead sweepOf
+  gone-is = fun-ext (λ w.
+      bit-word 16 (λ (v : ℕ). bit (word 16 (moved was next)) v && ltb v W) w
+      ∙ rw (bit-word 16 (moved was next) w)
+      (cases (ltb w W)
+      (λ t. rw (t, lt-ltb w 16 (lt-of-lt-of-le (ltb-true w W t) (most-ways W rule limits))) (and-true (moved was next w)))
+      (λ t. rw (t, beyond w (ltb-false w W t))
+      (ap (λ (b : Bool). ltb w 16 && b) (and-false (ltb w 16 && false)) ∙ and-false (ltb w 16)))))
+
+  counted : (f : Bits) → count 16 (λ (w : ℕ). bit gone w && f w) ≡ count W (λ (w : ℕ). moved was next w && f w)
+  counted f =
+      ap (λ (g : Bits). count 16 (λ (w : ℕ). g w && f w)) gone-is
+      ∙ count-wider W 16 (λ (w : ℕ). moved was next w && f w) (most-ways W rule limits)
+      (λ i h. rw (beyond i h))
+
+  word-is : changeBy (sweepOf W rule old new .change) (r .word) ≡ ruleOf rule W .reset (was .fill) (next .fill) (r .word)
+  unfolding sweepOf resetOf
+  word-is =
+      change-resets W rule (r .word) (was .fill) (next .fill) (ReadLaws.fill-usable W rule old limits .small) (ReadLaws.fill-usable W rule new limits .small)
+      ∙ rw (limits, ReadLaws.fill-usable W rule old limits .within, ReadLaws.fill-usable W rule new limits .within)
+
+  pub sweep-cleans : sweepBy (sweepOf W rule old new) r ≡ clean (ruleOf rule W) was next r
+  unfolding sweepBy drops sweptLines clean cleaned dropped droppedDirty
+  sweep-cleans = λ i. record {
+    answer = Policy (counted (bit (r .valid)) i) (both i);
+    row = record {
+      tags = wiped (gone-is i) (r .tags);
+      valid = without (gone-is i) (r .valid);
+      dirty = without (gone-is i) (r .dirty);
+      word = word-is i;
+    };
+  }
+    where
+      both : count 16 (λ (w : ℕ). bit gone w && bit (r .valid) w && bit (r .dirty) w)
+          ≡ count W (λ (w : ℕ). moved was next w && bit (r .valid) w && bit (r .dirty) w)
+      both =
+          ap (λ (g : Bits). count 16 (λ (w : ℕ). g w && bit (r .valid) w && bit (r .dirty) w)) gone-is
+          ∙ count-wider W 16 (λ (w : ℕ). moved was next w && bit (r .valid) w && bit (r .dirty) w) (most-ways W rule limits)
+          (λ i h. rw (beyond i h))
 
 -- ---- a fill map within the ways
 

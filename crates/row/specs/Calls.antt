@@ -4,7 +4,8 @@ use mathlib.Core.Bool.{Bool, cond}
 use mathlib.Core.List.{List}
 use Prim.Native.Nat.{ℕ}
 use Rattle.replacement.specs.Rule.{Rule, ruleOf}
-use Rattle.replacement.specs.Calls.{isWays, inLimits}
+use Rattle.waymap.specs.Ways.{isWays}
+use Rattle.replacement.specs.Calls.{inLimits}
 use Rattle.row.specs.Row.{Row, Effect, ways, asRead, isHit, hitWay, access, flush, clean}
 use Rattle.row.specs.declared.Maps.{Maps}
 use Rattle.row.specs.declared.Lines.{Lines}

@@ -3,10 +3,10 @@ use mathlib.Core.Path.{_≡_}
 use mathlib.Core.Bool.{Bool, true, false}
 use mathlib.Core.List.{[]}
 use Prim.Native.Nat.{ℕ, _^_, _<_}
-use Rattle.waymap.specs.Bits.{bit, any, reaches}
+use Rattle.waymap.specs.Bits.{any, reaches}
 use Rattle.replacement.specs.Rule.{Rule, ruleOf}
 use Rattle.replacement.specs.Calls.{inLimits}
-use Rattle.row.specs.Row.{Row, Effect, ways, vacant, accessBy, without}
+use Rattle.row.specs.Row.{Row, Effect, ways, vacant, accessBy}
 use Rattle.row.specs.Calls.{rowOf}
 use Rattle.row.specs.declared.Lines.{Lines}
 use Rattle.row.specs.declared.Maps.{Maps}
@@ -34,9 +34,3 @@ linesOf r = record { valid = r .valid; dirty = r .dirty; word = r .word }
 -- A miss with ways to fill.
 abbrev pub missAt : Rule → ℕ → ℕ → Bool → Row → Effect
 missAt R fill tag store r = accessBy false true (any (ways r) (vacant r fill)) R (record { hit = 0; fill = fill }) tag store r
-
--- What a change of policy leaves beside the tags, for a map of the ways that are cleaned.
-pub record SweptOf (W rule gone old new : ℕ) (l r : Lines) : Type 0 where
-  pub valid-is : r .valid ≡ without (bit gone) (l .valid)
-  pub dirty-is : r .dirty ≡ without (bit gone) (l .dirty)
-  pub word-is : r .word ≡ ruleOf rule W .reset old new (l .word)

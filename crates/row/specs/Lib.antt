@@ -3,4 +3,5 @@ pub mod Answer
 pub mod Row
 pub mod View
 pub mod Calls
+pub mod Sweep
 pub mod Inside

@@ -23,16 +23,6 @@ pub fn touched(ways: usize, rule: usize, word: u64, fill: u16, way: usize) -> u6
     done.word
 }
 
-// The word after a change of fill map.
-pub fn changed(ways: usize, rule: usize, word: u64, old: u16, new: u16) -> u64
-    requires { ⌜ Usable ways rule old ⌝ }
-    requires { ⌜ Usable ways rule new ⌝ }
-    ensures { λ r. ⌜ r ≡ ruleOf rule ways .reset old new word ⌝ }
-{
-    let done = replacement::reset(ways, rule, word, old, new);
-    done.word
-}
-
 // The victim of a map that is not empty.
 pub fn chosen(ways: usize, rule: usize, word: u64, fill: u16) -> Choice
     requires { ⌜ Usable ways rule fill ⌝ }

@@ -1,7 +1,7 @@
 // The tags of a set.
 ghost use mathlib.Core.Path.{_≡_};
-ghost use mathlib.Core.Bool.{cond, _&&_};
-ghost use Prim.Native.Nat.{ℕ, _<_};
+ghost use mathlib.Core.Bool.{_&&_};
+ghost use Prim.Native.Nat.{ℕ, _^_, _<_};
 ghost use lib.Dec.{eqb};
 ghost use lib.ListN.{length, getD};
 ghost use Rattle.waymap.specs.Bits.{bit, lowest};
@@ -12,8 +12,8 @@ fn is_at(tags: &[u64], map: u16, tag: u64, way: usize) -> bool
     requires { ⌜ way < length (now tags) ⌝ }
     ensures { λ r. ⌜ r ≡ (bit map way && eqb (getD (now (tags .entry)) way 0) tag) ⌝ }
 {
-    if waymap::has(map, way) {
-        return tags[way] == tag;
+    if tags[way] == tag {
+        return waymap::has(map, way);
     }
     false
 }
@@ -39,23 +39,15 @@ pub fn hit_way(tags: &[u64], valid: u16, hit: u16, tag: u64) -> usize
     find(tags, hit & valid, tag)
 }
 
-// Zero for a tag that goes.
-fn kept(tag: u64, gone: bool) -> u64
-    ensures { λ r. ⌜ r ≡ cond gone 0 tag ⌝ }
-{
-    if gone {
-        return 0;
-    }
-    tag
-}
-
-// The tags of the map's ways become zero.
+// The tags of the map's ways become zero, the lowest first.
 pub fn wipe(tags: &mut [u64], map: u16)
+    requires { ⌜ map < 2 ^ length (now tags) ⌝ }
     ensures { λ r. ⌜ now (tags .exit) ≡ wiped (bit map) (now (tags .entry)) ⌝ }
 {
-    let mut way = 0;
-    while way < tags.len() {
-        tags[way] = kept(tags[way], waymap::has(map, way));
-        way += 1;
+    let mut rest = map;
+    while rest != 0 {
+        let way = waymap::lowest_way(rest);
+        tags[way] = 0;
+        rest = rest & (rest - 1);
     }
 }

@@ -2,13 +2,14 @@
 use crate::Answer;
 use crate::Lines;
 use crate::rules;
+use replacement::Change;
 ghost use mathlib.Core.Path.{_≡_};
-ghost use mathlib.Core.Bool.{true, _&&_};
-ghost use Prim.Native.Nat.{ℕ, _<_};
-ghost use Rattle.waymap.specs.Bits.{bit, count};
+ghost use mathlib.Core.Bool.{true};
+ghost use Prim.Native.Nat.{_<_};
 ghost use Rattle.replacement.specs.Rule.{ruleOf};
-ghost use Rattle.row.specs.Row.{hitAt, filled as filledRow, flushAt, without};
-ghost use Rattle.row.specs.Inside.{Usable, untagged, linesOf, SweptOf};
+ghost use Rattle.row.specs.Row.{hitAt, filled as filledRow, flushAt};
+ghost use Rattle.row.specs.Sweep.{drops, sweptLines};
+ghost use Rattle.row.specs.Inside.{Usable, untagged, linesOf};
 
 // After a hit: the way is touched, and a store marks it dirty.
 pub fn hit(lines: Lines, ways: usize, rule: usize, fill: u16, store: bool, way: usize) -> Lines
@@ -62,7 +63,7 @@ pub fn flushed(lines: Lines, way: usize) -> Lines
 
 // The valid lines in the map, and how many of them are dirty.
 pub fn dropped(lines: Lines, gone: u16) -> Answer
-    ensures { λ r. ⌜ r ≡ Answer.Policy (count 16 (λ (w : ℕ). bit gone w && bit (lines .valid) w)) (count 16 (λ (w : ℕ). bit gone w && bit (lines .valid) w && bit (lines .dirty) w)) ⌝ }
+    ensures { λ r. ⌜ r ≡ drops gone lines ⌝ }
 {
     let valid = gone & lines.valid;
     Answer::Policy {
@@ -71,15 +72,13 @@ pub fn dropped(lines: Lines, gone: u16) -> Answer
     }
 }
 
-// After a change of policy: the map's ways are invalid and not dirty, and the rule resets the word.
-pub fn swept(lines: Lines, ways: usize, rule: usize, gone: u16, old: u16, new: u16) -> Lines
-    requires { ⌜ Usable ways rule old ⌝ }
-    requires { ⌜ Usable ways rule new ⌝ }
-    ensures { λ r. ⌜ SweptOf ways rule gone old new lines r ⌝ }
+// After a change of policy: the map's ways are invalid and not dirty, and the replacement word is changed.
+pub fn swept(lines: Lines, gone: u16, change: Change) -> Lines
+    ensures { λ r. ⌜ r ≡ sweptLines gone change lines ⌝ }
 {
     Lines {
         valid: lines.valid & !gone,
         dirty: lines.dirty & !gone,
-        word: rules::changed(ways, rule, lines.word, old, new),
+        word: replacement::changed(change, lines.word),
     }
 }

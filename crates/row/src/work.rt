@@ -11,7 +11,7 @@ ghost use mathlib.Core.Bool.{true};
 ghost use lib.ListN.{length};
 ghost use Rattle.waymap.specs.Bits.{bit, any};
 ghost use Rattle.replacement.specs.Rule.{ruleOf};
-ghost use Rattle.row.specs.Row.{evictAt, access, flush, clean};
+ghost use Rattle.row.specs.Row.{evictAt, access, flush};
 ghost use Rattle.row.specs.Calls.{rowOf, result};
 ghost use Rattle.row.specs.Inside.{Usable, missAt};
 
@@ -93,24 +93,5 @@ pub fn drop_line(tags: &[u64], lines: Lines, maps: Maps, tag: u64) -> Done
     Done {
         answer: Answer::Absent,
         lines,
-    }
-}
-
-// The cleaning of a change of policy.
-pub fn sweep(tags: &mut [u64], lines: Lines, rule: usize, old: Maps, new: Maps) -> Done
-    requires { ⌜ Usable (length (now tags)) rule (old .fill) ⌝ }
-    requires { ⌜ Usable (length (now tags)) rule (new .fill) ⌝ }
-    requires { ⌜ Usable (length (now tags)) rule (old .hit) ⌝ }
-    requires { ⌜ Usable (length (now tags)) rule (new .hit) ⌝ }
-    ensures { λ r. ⌜ result r (now (tags .exit)) ≡ clean (ruleOf rule (length (now (tags .entry)))) old new (rowOf (now (tags .entry)) lines) ⌝ }
-{
-    let ways = tags.len();
-    let gone = old.hit ^ new.hit;
-    let answer = update::dropped(lines, gone);
-    let swept = update::swept(lines, ways, rule, gone, old.fill, new.fill);
-    tags::wipe(tags, gone);
-    Done {
-        answer,
-        lines: swept,
     }
 }

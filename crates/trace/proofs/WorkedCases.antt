@@ -4,8 +4,9 @@ use mathlib.Core.Bool.{xor}
 use mathlib.Core.List.{List, [], _∷_}
 use Prim.Native.Nat.{ℕ, _+_, _*_}
 use Rattle.waymap.specs.Bits.{bit, word, any, lowest, count, put, reaches}
-use Rattle.replacement.specs.Tree as Tree
-use Rattle.replacement.specs.Calls.{isWays, inLimits}
+use Rattle.tree.specs.Tree as Tree
+use Rattle.waymap.specs.Ways.{isWays}
+use Rattle.replacement.specs.Calls.{inLimits}
 use Rattle.row.specs.Row as Row
 use Rattle.verdict.specs.Geometry.{isPower, within, sized}
 use Rattle.verdict.specs.Domains.{domainOf, policies, isFull}
@@ -43,7 +44,7 @@ listingA =
     ∷ 10 ∷ []
 
 pub case-a-listing : listing fileA ≡ listingA
-unfolding answersOf finally step decided stepBy changePolicy newDomain useLine rowEffect onSet refusal refusalBy policyRefusal useRefusal sharesNode sharesWay badArgument newMaps kindOf counted isFull policies putDomain domainOf total eachSet putRow rowAt sized tagOf setOf within isPower freshTables freshDomains fresh isWays inLimits Row.asRead Row.matches Row.isHit Row.hitWay Row.hitAt Row.filled Row.vacant Row.fillAt Row.evictAt Row.accessBy Row.access Row.flushAt Row.flush Row.moved Row.without Row.wiped Row.dropped Row.droppedDirty Row.cleaned bit word any lowest count put reaches xor Tree.passes Tree.under Tree.holds Tree.free Tree.forcedRight Tree.walk Tree.walked Tree.victim Tree.touch Tree.reset Tree.shares commandOf value field lastSteps badFile fileRefusal decimalBy line told answerLines domainLine domainPart domainLines runLines listing
+unfolding answersOf finally step decided stepBy changePolicy newDomain useLine rowEffect onSet refusal refusalBy policyRefusal useRefusal sharesNode sharesWay badArgument newMaps kindOf counted isFull policies putDomain domainOf total eachSet putRow rowAt sized tagOf setOf within isPower freshTables freshDomains fresh isWays inLimits Row.asRead Row.matches Row.isHit Row.hitWay Row.hitAt Row.filled Row.vacant Row.fillAt Row.evictAt Row.accessBy Row.access Row.flushAt Row.flush Row.moved Row.without Row.wiped Row.dropped Row.droppedDirty Row.cleaned bit word any lowest count put reaches xor Tree.passes Tree.under Tree.holds Tree.free Tree.forcedRight Tree.walk Tree.walked Tree.victim Tree.touch Tree.changes Tree.reset Tree.shares commandOf value field lastSteps badFile fileRefusal decimalBy line told answerLines domainLine domainPart domainLines runLines listing
 case-a-listing = refl
 
 -- "A file refused by 10 or by 1 gives the one line `refused` and the number": a file of no bytes, and one of 3 sets.

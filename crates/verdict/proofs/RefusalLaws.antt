@@ -2,6 +2,7 @@
 use mathlib.Core.Path.{_≡_, refl, sym, ap, ap₂, _∙_}
 use mathlib.Core.Logic.{_⊎_, inl, inr}
 use mathlib.Core.List.{[], _∷_}
+use lib.ListN.{getD}
 use mathlib.Core.Bool.{Bool, true, false, cond, not, _&&_, _||_, and-true, or-true, true≢false}
 use Prim.Native.Nat.{ℕ, zero, suc, _+_, _-_, _/_, _%_, _^_, _≤_, _<_}
 use native.Mathlib.Nat.{lt-of-le-of-lt, mod-lt}
@@ -26,12 +27,12 @@ use Rattle.row.specs.declared.Maps.{Maps}
 use Rattle.waymap.proofs.MapLaws.{reach-below}
 use Rattle.row.proofs.ReadLaws.{fill-below}
 use Rattle.verdict.specs.Geometry.{within, Lengths, sized}
-use Rattle.verdict.specs.Domains.{policies, domainOf, isFull}
+use Rattle.verdict.specs.Domains.{noDomain, mapsOf, isFull}
 use Rattle.verdict.specs.Refusal.{Kind, access, flush, policy, unknown, kindOf, newMaps, badArgument, useRefusal, policyRefusal, refusalBy, refusal}
-use Rattle.verdict.specs.Calls.{sizesOf, kindIs}
+use Rattle.verdict.specs.Calls.{sizesOf, kindIs, readBy}
 use Rattle.verdict.specs.declared.Geometry.{Geometry}
 use Rattle.verdict.specs.declared.Counts.{Counts}
-use Rattle.verdict.specs.declared.Domains.{Domains}
+use Rattle.verdict.specs.declared.Policies.{Policies}
 use Rattle.verdict.specs.declared.Asked.{Asked}
 use Rattle.verdict.specs.declared.Asked.the-variants as AskedIs
 use Rattle.verdict.proofs.Asked as AskedType
@@ -135,9 +136,9 @@ held true false e = e
 held false h e = refl
 
 -- a policy as read stays within the ways
-pub policy-within : (W : ℕ) (ds : Domains) (e : ℕ) {p : Maps} → p ≡ policies W ds e → reaches W (p .fill) ≡ false
-unfolding policies
-policy-within W ds e q = rw q (reach-below W (policies W ds e .fill) (fill-below W (record { hit = domainOf ds e .hit; fill = domainOf ds e .fill })))
+pub policy-within : (W : ℕ) (all : Policies) (e : ℕ) {p : Maps} → p ≡ readBy W all e → reaches W (p .fill) ≡ false
+unfolding readBy
+policy-within W all e q = rw q (reach-below W (readBy W all e .fill) (fill-below W (getD (all .maps) e (mapsOf noDomain))))
 
 -- an argument that is not bad says maps that read as they are
 pub good-maps : (W arg : ℕ) → badArgument W arg ≡ false → asRead W (newMaps arg) ≡ newMaps arg

@@ -23,9 +23,13 @@ noDomain = record { hit = 0; fill = 0; counts = noCounts }
 unfoldable pub domainOf : Domains → ℕ → Domain
 domainOf ds d = getD (ds .records) d noDomain
 
+-- A domain's maps as stored.
+abbrev pub mapsOf : Domain → Maps
+mapsOf x = record { hit = x .hit; fill = x .fill }
+
 -- The policies as they are read, domain by domain.
 unfoldable pub policies : ℕ → Domains → ℕ → Maps
-policies W ds d = asRead W (record { hit = domainOf ds d .hit; fill = domainOf ds d .fill })
+policies W ds d = asRead W (mapsOf (domainOf ds d))
 
 -- "any count of that domain is 4,294,967,295"
 unfoldable pub isFull : Counts → Bool

@@ -3,11 +3,12 @@ mod limits;
 mod reasons;
 
 pub use limits::within;
+pub use reasons::line_refusal;
 pub use reasons::new_maps;
+use row::Maps;
 ghost use mathlib.Core.Path.{_≡_};
-ghost use Rattle.verdict.specs.Domains.{domainOf, policies};
-ghost use Rattle.verdict.specs.Refusal.{kindOf, refusal as refusalOf};
-ghost use Rattle.verdict.specs.Calls.{sizesOf, kindIs};
+ghost use Rattle.verdict.specs.Refusal.{kindOf};
+ghost use Rattle.verdict.specs.Calls.{sizesOf, kindIs, policiesOf, policyRefusalOf};
 
 // The numbers of sets and ways, and the replacement rule.
 pub struct Geometry {
@@ -35,6 +36,11 @@ pub struct Domain {
 
 pub struct Domains {
     pub records: [Domain; 16],
+}
+
+// The maps of all domains, as stored.
+pub struct Policies {
+    pub maps: [Maps; 16],
 }
 
 // What a kind number asks for.
@@ -78,31 +84,29 @@ pub fn sizes(g: Geometry, tags: usize, valid: usize, dirty: usize, words: usize)
     0
 }
 
-// The number of a step's refusal, given the tables' lengths; 0 for a step that is not turned down.
-pub fn refusal(
-    g: Geometry,
-    tags: usize,
-    valid: usize,
-    dirty: usize,
-    words: usize,
-    domains: Domains,
-    domain: usize,
-    kind: u8,
-    argument: u64,
-) -> usize
-    ensures { λ r. ⌜ r ≡ refusalOf g (record { tags = tags; valid = valid; dirty = dirty; words = words }) (policies (g .ways) domains) (domainOf domains domain .counts) domain kind argument ⌝ }
+// The policies of all domains, without their counts.
+pub fn policies_of(domains: Domains) -> Policies
+    ensures { λ r. ⌜ r ≡ policiesOf domains ⌝ }
 {
-    let number = sizes(g, tags, valid, dirty, words);
-    if number != 0 {
-        return number;
+    let mut maps = [Maps { hit: 0, fill: 0 }; 16];
+    let mut d = 0;
+    while d < 16 {
+        let x = domains.records[d];
+        maps[d] = Maps {
+            hit: x.hit,
+            fill: x.fill,
+        };
+        d += 1;
     }
-    if 16 <= domain {
-        return 3;
+    Policies { maps }
+}
+
+// Of a change of policy, given all policies: numbers 5, 8 and 9; 0 for none. A number of ways or a rule outside the limits is 1.
+pub fn policy_refusal(g: Geometry, policies: Policies, domain: usize, argument: u64) -> usize
+    ensures { λ r. ⌜ r ≡ policyRefusalOf g policies domain argument ⌝ }
+{
+    if replacement::in_limits(g.ways, g.rule) {} else {
+        return 1;
     }
-    let asked = kind_of(kind);
-    match asked {
-        Asked::Line { flush: _, store: _ } => reasons::use_refusal(g.ways, domains, domain),
-        Asked::Policy => reasons::policy_refusal(g, domains, domain, argument),
-        Asked::Unknown => 4,
-    }
+    reasons::change_refusal(g, policies, domain, argument)
 }

@@ -1,34 +1,29 @@
 // What numbers 5 to 9 look at.
 use crate::Counts;
-use crate::Domains;
 use crate::Geometry;
+use crate::Policies;
 use replacement::Reply;
 use row::Maps;
 ghost use mathlib.Core.Path.{_≡_};
-ghost use mathlib.Core.Bool.{Bool, false, not, _&&_};
+ghost use mathlib.Core.Bool.{Bool, true, false, not, _&&_};
 ghost use Prim.Native.Nat.{ℕ, _<_};
 ghost use lib.Dec.{eqb};
 ghost use Rattle.waymap.specs.Bits.{bit, any, reaches};
 ghost use Rattle.replacement.specs.Rule.{Rule, ruleOf};
-ghost use Rattle.verdict.specs.Domains.{domainOf, policies, isFull};
+ghost use Rattle.replacement.specs.Calls.{inLimits};
+ghost use Rattle.row.specs.Row.{asRead};
+ghost use Rattle.verdict.specs.Domains.{isFull};
 ghost use Rattle.verdict.specs.Refusal.{newMaps, badArgument, sharesWay, sharesNode, useRefusal, policyRefusal};
-ghost use Rattle.verdict.specs.Inside.{Limited};
+ghost use Rattle.verdict.specs.Calls.{readBy};
 
 const LARGEST: u32 = 4_294_967_295;
 
 // A domain's policy as read.
-fn policy(ways: usize, domains: Domains, d: usize) -> Maps
+fn policy(ways: usize, policies: Policies, d: usize) -> Maps
     requires { ⌜ d < 16 ⌝ }
-    ensures { λ r. ⌜ r ≡ policies ways domains d ⌝ }
+    ensures { λ r. ⌜ r ≡ readBy ways policies d ⌝ }
 {
-    let x = domains.records[d];
-    row::as_read(
-        ways,
-        Maps {
-            hit: x.hit,
-            fill: x.fill,
-        },
-    )
+    row::as_read(ways, policies.maps[d])
 }
 
 // The maps of a policy argument.
@@ -74,44 +69,42 @@ fn is_full(c: Counts) -> bool
     c.flushed == LARGEST
 }
 
-// Numbers 6 and 7; 0 for neither.
-pub fn use_refusal(ways: usize, domains: Domains, d: usize) -> usize
-    requires { ⌜ d < 16 ⌝ }
-    ensures { λ r. ⌜ r ≡ useRefusal (policies ways domains d) (domainOf domains d .counts) ⌝ }
+// Of an access or a flush, given the domain's own maps and counts: numbers 6 and 7; 0 for neither.
+pub fn line_refusal(ways: usize, stored: Maps, counts: Counts) -> usize
+    ensures { λ r. ⌜ r ≡ useRefusal (asRead ways stored) counts ⌝ }
 {
-    let read = policy(ways, domains, d);
+    let read = row::as_read(ways, stored);
     if read.hit == 0 {
         return 6;
     }
-    let own = domains.records[d];
-    if is_full(own.counts) {
+    if is_full(counts) {
         return 7;
     }
     0
 }
 
 // Whether another domain `e` has a way of the hit map.
-fn has_way(ways: usize, domains: Domains, d: usize, hit: u16, e: usize) -> bool
+fn has_way(ways: usize, policies: Policies, d: usize, hit: u16, e: usize) -> bool
     requires { ⌜ e < 16 ⌝ }
     requires { ⌜ hit < 65536 ⌝ }
-    ensures { λ r. ⌜ r ≡ (not (eqb d e) && any 16 (λ (w : ℕ). bit hit w && bit (policies ways domains e .hit) w)) ⌝ }
+    ensures { λ r. ⌜ r ≡ (not (eqb d e) && any 16 (λ (w : ℕ). bit hit w && bit (readBy ways policies e .hit) w)) ⌝ }
 {
     if d == e {
         return false;
     }
-    let other = policy(ways, domains, e);
+    let other = policy(ways, policies, e);
     hit & other.hit != 0
 }
 
 // Number 8.
-fn shares_way(ways: usize, domains: Domains, d: usize, new: Maps) -> bool
+fn shares_way(ways: usize, policies: Policies, d: usize, new: Maps) -> bool
     requires { ⌜ new .hit < 65536 ⌝ }
-    ensures { λ r. ⌜ r ≡ sharesWay (policies ways domains) d new ⌝ }
+    ensures { λ r. ⌜ r ≡ sharesWay (readBy ways policies) d new ⌝ }
 {
     let hit = new.hit;
     let mut e = 0;
     while e < 16 {
-        if has_way(ways, domains, d, hit, e) {
+        if has_way(ways, policies, d, hit, e) {
             return true;
         }
         e += 1;
@@ -120,16 +113,16 @@ fn shares_way(ways: usize, domains: Domains, d: usize, new: Maps) -> bool
 }
 
 // Whether another domain `e` has a node of the fill map.
-fn has_node(g: Geometry, domains: Domains, d: usize, fill: u16, e: usize) -> bool
-    requires { ⌜ Limited g ⌝ }
+fn has_node(g: Geometry, policies: Policies, d: usize, fill: u16, e: usize) -> bool
+    requires { ⌜ inLimits (g .ways) (g .rule) ≡ true ⌝ }
     requires { ⌜ reaches (g .ways) fill ≡ false ⌝ }
     requires { ⌜ e < 16 ⌝ }
-    ensures { λ r. ⌜ r ≡ (not (eqb d e) && ruleOf (g .rule) (g .ways) .shares fill (policies (g .ways) domains e .fill)) ⌝ }
+    ensures { λ r. ⌜ r ≡ (not (eqb d e) && ruleOf (g .rule) (g .ways) .shares fill (readBy (g .ways) policies e .fill)) ⌝ }
 {
     if d == e {
         return false;
     }
-    let other = policy(g.ways, domains, e);
+    let other = policy(g.ways, policies, e);
     let reply = replacement::conflict(g.ways, g.rule, fill, other.fill);
     match reply {
         Reply::SharedNode => true,
@@ -138,15 +131,15 @@ fn has_node(g: Geometry, domains: Domains, d: usize, fill: u16, e: usize) -> boo
 }
 
 // Number 9.
-fn shares_node(g: Geometry, domains: Domains, d: usize, new: Maps) -> bool
-    requires { ⌜ Limited g ⌝ }
+fn shares_node(g: Geometry, policies: Policies, d: usize, new: Maps) -> bool
+    requires { ⌜ inLimits (g .ways) (g .rule) ≡ true ⌝ }
     requires { ⌜ reaches (g .ways) (new .fill) ≡ false ⌝ }
-    ensures { λ r. ⌜ r ≡ sharesNode (ruleOf (g .rule) (g .ways)) (policies (g .ways) domains) d new ⌝ }
+    ensures { λ r. ⌜ r ≡ sharesNode (ruleOf (g .rule) (g .ways)) (readBy (g .ways) policies) d new ⌝ }
 {
     let fill = new.fill;
     let mut e = 0;
     while e < 16 {
-        if has_node(g, domains, d, fill, e) {
+        if has_node(g, policies, d, fill, e) {
             return true;
         }
         e += 1;
@@ -154,19 +147,19 @@ fn shares_node(g: Geometry, domains: Domains, d: usize, new: Maps) -> bool
     false
 }
 
-// Numbers 5, 8 and 9; 0 for none.
-pub fn policy_refusal(g: Geometry, domains: Domains, d: usize, argument: u64) -> usize
-    requires { ⌜ Limited g ⌝ }
-    ensures { λ r. ⌜ r ≡ policyRefusal g (policies (g .ways) domains) d argument ⌝ }
+// Numbers 5, 8 and 9, within the limits; 0 for none.
+pub fn change_refusal(g: Geometry, policies: Policies, d: usize, argument: u64) -> usize
+    requires { ⌜ inLimits (g .ways) (g .rule) ≡ true ⌝ }
+    ensures { λ r. ⌜ r ≡ policyRefusal g (readBy (g .ways) policies) d argument ⌝ }
 {
     if bad_argument(g.ways, argument) {
         return 5;
     }
     let new = new_maps(argument);
-    if shares_way(g.ways, domains, d, new) {
+    if shares_way(g.ways, policies, d, new) {
         return 8;
     }
-    if shares_node(g, domains, d, new) {
+    if shares_node(g, policies, d, new) {
         return 9;
     }
     0

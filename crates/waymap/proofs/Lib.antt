@@ -4,3 +4,4 @@ pub mod BitLaws
 pub mod WordLaws
 pub mod WayLaws
 pub mod MapLaws
+pub mod NumberLaws

@@ -1,2 +1,3 @@
--- What a way map is: `Bits`.
+-- What a way map is, and how many ways there are.
 pub mod Bits
+pub mod Ways

@@ -5,6 +5,7 @@ ghost use mathlib.Core.Bool.{not};
 ghost use Prim.Native.Nat.{ℕ};
 ghost use lib.Dec.{ltb, eqb};
 ghost use Rattle.waymap.specs.Bits.{bit, word, lowest, count, put, reaches};
+ghost use Rattle.waymap.specs.Ways.{isWays, takes as takesMap};
 
 // Whether the map holds the way. No map holds way 16 or more.
 pub fn has(map: u16, way: usize) -> bool
@@ -44,6 +45,26 @@ pub fn fits(map: u16, ways: usize) -> bool
         return true;
     }
     map >> ways == 0
+}
+
+// Whether a cache may have so many ways.
+pub fn is_ways(ways: usize) -> bool
+    ensures { λ r. ⌜ r ≡ isWays ways ⌝ }
+{
+    match ways {
+        2 | 4 | 8 | 16 => true,
+        _ => false,
+    }
+}
+
+// Whether a cache may have so many ways, and every way of the map is below that.
+pub fn takes(ways: usize, map: u16) -> bool
+    ensures { λ r. ⌜ r ≡ takesMap ways map ⌝ }
+{
+    if is_ways(ways) {
+        return fits(map, ways);
+    }
+    false
 }
 
 // The lowest way of the map, 16 where it is empty.

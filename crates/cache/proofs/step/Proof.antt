@@ -1,21 +1,57 @@
 -- `cache::step` meets its contract.
-use mathlib.Core.Path.{sym, ap, _∙_}
-use Rattle.verdict.specs.Calls.{kindIs}
-use Rattle.verdict.proofs.RefusalLaws.{asked-policy, asked-unknown}
+use native.Mathlib.Omega.{arith}
+use Rattle.verdict.specs.Domains.{domainOf, policies}
+use Rattle.verdict.proofs.RefusalLaws.{sizes-passed, by-sizes, by-domain}
+use Rattle.cache.specs.Tables.{Tables, lengths}
 use Rattle.cache.specs.Step.{tablesOf}
-use Rattle.cache.proofs.StepLaws.{step-refused, is-shaped, is-domain, has-room, step-line, step-policy, step-unknown}
+use Rattle.cache.specs.Inside.{Shaped}
+use mathlib.Core.Path.{sym, _∙_}
+use Rattle.cache.proofs.StepLaws.{shaped, step-refused, step-line, step-policy, step-unknown}
 use borrow.Author.Needs.{needs}
 use Rattle.cache.proofs.step.Statement.{statement}
 use Rattle.cache.proofs.step.Tie as tie
 
-refusal-requires : tie.Need-refusal-requires
-refusal-requires c κs = search needs
+-- the tables as they were lent
+abbrev lent : tie.Start → Tables
+lent c = tablesOf (c .args .tags .now) (c .args .valid .now) (c .args .dirty .now) (c .args .words .now)
+
+-- what numbers 1 and 2 let pass is within the limits and of the right lengths
+is-shaped : (c : tie.Else1) → Shaped (c .before .before .before .before .before .before .args .g) (lent (c .before .before .before .before .before .before))
+is-shaped c =
+    let entry = c .before .before .before .before .before .before in
+    let passed = sizes-passed (entry .args .g) (lengths (lent entry)) (sym (c .before .sizes .ensures) ∙ c .if1 .left) in
+    shaped (entry .args .g) (lent entry) (passed .0) (passed .1)
+
+sizes-requires : tie.Need-sizes-requires
+sizes-requires c κs = search needs
 
 refused-requires : tie.Need-refused-requires
 refused-requires c κs = search needs
 
 returns : tie.Need-returns
-returns c = let a = (c .before .before .before .before .before .before .before .args) in step-refused (a .g) (a .domain) (a .kind) (a .argument) (tablesOf (a .tags .now) (a .valid .now) (a .dirty .now) (a .words .now)) (a .domains) (c .before .before .refusal .ensures) (c .before .if1 .taken) (c .refused .ensures)
+returns c =
+    let entry = c .before .before .before .before .before .before .before in
+    step-refused (entry .args .g) (entry .args .domain) (entry .args .kind) (entry .args .argument) (lent entry) (entry .args .t6)
+    (by-sizes (entry .args .g) (lengths (lent entry)) (policies (entry .args .g .ways) (entry .args .t6)) (domainOf (entry .args .t6) (entry .args .domain) .counts)
+    (entry .args .domain) (entry .args .kind) (entry .args .argument) (c .before .before .sizes .ensures) (c .before .if1 .taken))
+    (c .before .if1 .taken) (c .refused .ensures)
+
+refused-requires-2 : tie.Need-refused-requires-2
+refused-requires-2 c κs = search needs
+
+returns-2 : tie.Need-returns-2
+returns-2 c =
+    let entry = c .before .before .before .before .before .before .before .before in
+    step-refused (entry .args .g) (entry .args .domain) (entry .args .kind) (entry .args .argument) (lent entry) (entry .args .t6)
+    (by-domain (entry .args .g) (lengths (lent entry)) (policies (entry .args .g .ways) (entry .args .t6)) (domainOf (entry .args .t6) (entry .args .domain) .counts)
+    (entry .args .domain) (entry .args .kind) (entry .args .argument) (c .before .before .before .sizes .ensures) (c .before .before .if1 .left) (c .before .if2 .taken))
+    (λ e. omega arith) (c .refused2 .ensures)
+
+mul-own : tie.Need-mul-own
+mul-own c = search needs
+
+element-copy-out-own : tie.Need-element-copy-out-own
+element-copy-out-own c = search needs
 
 kind-of-requires : tie.Need-kind-of-requires
 kind-of-requires c κs = search needs
@@ -23,35 +59,29 @@ kind-of-requires c κs = search needs
 enum-known-asked : tie.Need-enum-known-asked
 enum-known-asked c = search needs
 
-maps-of-requires : tie.Need-maps-of-requires
-maps-of-requires c κs = let a = (c .before .before .before .before .before .before .before .before .before .before .args) in is-domain (a .g) (a .domain) (a .kind) (a .argument) (tablesOf (a .tags .now) (a .valid .now) (a .dirty .now) (a .words .now)) (a .domains) (c .before .before .before .before .before .refusal .ensures) (c .before .before .before .before .if1 .left)
+line-requires : tie.Need-line-requires
+line-requires c κs = is-shaped (c .before .before .before .before .before .before .before .before .before .before)
 
-use-set-requires : tie.Need-use-set-requires
-use-set-requires c κs = let a = (c .before .before .before .before .before .before .before .before .before .before .before .before .before .before .before .args) in is-shaped (a .g) (a .domain) (a .kind) (a .argument) (tablesOf (a .tags .now) (a .valid .now) (a .dirty .now) (a .words .now)) (a .domains) (c .before .before .before .before .before .before .before .before .before .before .refusal .ensures) (c .before .before .before .before .before .before .before .before .before .if1 .left)
-
-used-requires : tie.Need-used-requires
-used-requires c κs = let a = (c .before .before .before .before .before .before .before .before .before .before .before .before .before .before .before .before .before .before .before .before .before .before .before .before .args) in (is-domain (a .g) (a .domain) (a .kind) (a .argument) (tablesOf (a .tags .now) (a .valid .now) (a .dirty .now) (a .words .now)) (a .domains) (c .before .before .before .before .before .before .before .before .before .before .before .before .before .before .before .before .before .before .before .refusal .ensures) (c .before .before .before .before .before .before .before .before .before .before .before .before .before .before .before .before .before .before .if1 .left), has-room (a .g) (a .domain) (a .kind) (a .argument) (tablesOf (a .tags .now) (a .valid .now) (a .dirty .now) (a .words .now)) (a .domains) (c .before .before .before .before .before .before .before .before .before .before .before .before .before .before .before .before .before .before .before .refusal .ensures) (c .before .before .before .before .before .before .before .before .before .before .before .before .before .before .before .before .before .before .if1 .left) (c .before .before .before .before .before .before .before .before .before .before .before .before .before .before .before .asked .given .0 .0) (c .before .before .before .before .before .before .before .before .before .before .before .before .before .before .before .asked .given .0 .1 .0) (ap kindIs (sym (c .before .before .before .before .before .before .before .before .before .before .before .before .before .before .before .asked .given .1)) ∙ (c .before .before .before .before .before .before .before .before .before .before .before .before .before .before .before .before .before .kind-of .ensures)))
+put-back-requires : tie.Need-put-back-requires
+put-back-requires c κs = search needs
 
 enum-told : tie.Need-enum-told
 enum-told c = search needs
 
-maps-of-requires-2 : tie.Need-maps-of-requires-2
-maps-of-requires-2 c κs = let a = (c .before .before .before .before .before .before .before .before .before .args) in is-domain (a .g) (a .domain) (a .kind) (a .argument) (tablesOf (a .tags .now) (a .valid .now) (a .dirty .now) (a .words .now)) (a .domains) (c .before .before .before .before .refusal .ensures) (c .before .before .before .if1 .left)
+policies-of-requires : tie.Need-policies-of-requires
+policies-of-requires c κs = search needs
 
-new-maps-requires : tie.Need-new-maps-requires
-new-maps-requires c κs = search needs
+policy-requires : tie.Need-policy-requires
+policy-requires c κs = is-shaped (c .before .before .before .before .before .before .before .before .before .before)
 
-sweep-sets-requires : tie.Need-sweep-sets-requires
-sweep-sets-requires c κs = let a = (c .before .before .before .before .before .before .before .before .before .before .before .before .before .before .before .args) in is-shaped (a .g) (a .domain) (a .kind) (a .argument) (tablesOf (a .tags .now) (a .valid .now) (a .dirty .now) (a .words .now)) (a .domains) (c .before .before .before .before .before .before .before .before .before .before .refusal .ensures) (c .before .before .before .before .before .before .before .before .before .if1 .left)
-
-changed-requires : tie.Need-changed-requires
-changed-requires c κs = let a = (c .before .before .before .before .before .before .before .before .before .before .before .before .before .before .before .before .before .before .before .before .before .before .before .before .args) in is-domain (a .g) (a .domain) (a .kind) (a .argument) (tablesOf (a .tags .now) (a .valid .now) (a .dirty .now) (a .words .now)) (a .domains) (c .before .before .before .before .before .before .before .before .before .before .before .before .before .before .before .before .before .before .before .refusal .ensures) (c .before .before .before .before .before .before .before .before .before .before .before .before .before .before .before .before .before .before .if1 .left)
+put-back-requires-2 : tie.Need-put-back-requires-2
+put-back-requires-2 c κs = search needs
 
 enum-told-2 : tie.Need-enum-told-2
 enum-told-2 c = search needs
 
-refused-requires-2 : tie.Need-refused-requires-2
-refused-requires-2 c κs = search needs
+refused-requires-3 : tie.Need-refused-requires-3
+refused-requires-3 c κs = search needs
 
 same-length : tie.Need-same-length
 same-length c = search needs
@@ -65,8 +95,16 @@ same-length-3 c = search needs
 same-length-4 : tie.Need-same-length-4
 same-length-4 c = search needs
 
-returns-2 : tie.Need-returns-2
-returns-2 c = let a = (c .before .before .before .before .before .before .before .before .before .before .before .before .before .before .before .before .before .before .before .before .before .before .before .before .before .args) in step-line (a .g) (a .domain) (a .kind) (a .argument) (tablesOf (a .tags .now) (a .valid .now) (a .dirty .now) (a .words .now)) (a .domains) (c .before .before .before .before .before .before .before .before .before .before .before .before .before .before .before .before .before .before .before .before .refusal .ensures) (c .before .before .before .before .before .before .before .before .before .before .before .before .before .before .before .before .before .before .before .if1 .left) (c .before .before .before .before .before .before .before .before .before .before .before .before .before .before .before .before .asked .given .0 .0) (c .before .before .before .before .before .before .before .before .before .before .before .before .before .before .before .before .asked .given .0 .1 .0) (ap kindIs (sym (c .before .before .before .before .before .before .before .before .before .before .before .before .before .before .before .before .asked .given .1)) ∙ (c .before .before .before .before .before .before .before .before .before .before .before .before .before .before .before .before .before .before .kind-of .ensures)) (c .before .before .before .before .before .before .before .before .before .before .before .before .before .before .maps-of .ensures) (c .before .before .before .before .before .before .before .before .before .use-set .ensures) (c .used .ensures)
+returns-3 : tie.Need-returns-3
+unfolding domainOf
+returns-3 c =
+    let sized = c .before .before .before .before .before .before .before .before .before .before .before .before .before .before .before .before .before .before .before .before in
+    let entry = sized .before .before .before .before .before .before in
+    let asked = c .before .before .before .before .before .before .before .before .before .before .before .before .before .before .before .before .before .kind-of in
+    let told = c .before .before .before .before .before .before .before .before .before .before .before .before .before .before .before .asked .given in
+    step-line (entry .args .g) (entry .args .domain) (entry .args .kind) (entry .args .argument) (lent entry) (entry .args .t6) (is-shaped sized)
+    (asked .result) (asked .ensures) (sized .before .sizes .ensures) (sized .if1 .left) (c .before .before .before .before .before .before .before .before .before .before .before .before .before .before .before .before .before .before .before .if2 .left)
+    _ _ (told .1) (c .before .before .before .before .before .before .before .before .before .line .ensures) (c .put-back .ensures)
 
 same-length-5 : tie.Need-same-length-5
 same-length-5 c = search needs
@@ -80,39 +118,54 @@ same-length-7 c = search needs
 same-length-8 : tie.Need-same-length-8
 same-length-8 c = search needs
 
-returns-3 : tie.Need-returns-3
-returns-3 c = let a = (c .before .before .before .before .before .before .before .before .before .before .before .before .before .before .before .before .before .before .before .before .before .before .before .before .before .args) in step-policy (a .g) (a .domain) (a .kind) (a .argument) (tablesOf (a .tags .now) (a .valid .now) (a .dirty .now) (a .words .now)) (a .domains) (c .before .before .before .before .before .before .before .before .before .before .before .before .before .before .before .before .before .before .before .before .refusal .ensures) (c .before .before .before .before .before .before .before .before .before .before .before .before .before .before .before .before .before .before .before .if1 .left) (asked-policy (c .before .before .before .before .before .before .before .before .before .before .before .before .before .before .before .before .before .before .kind-of .result) (c .before .before .before .before .before .before .before .before .before .before .before .before .before .before .before .before .before .match .keys2) ∙ (c .before .before .before .before .before .before .before .before .before .before .before .before .before .before .before .before .before .before .kind-of .ensures)) (c .before .before .before .before .before .before .before .before .before .before .before .before .before .before .before .maps-of2 .ensures) (c .before .before .before .before .before .before .before .before .before .before .before .before .before .before .new-maps .ensures) (c .before .before .before .before .before .before .before .before .before .sweep-sets .ensures) (c .changed .ensures)
-
 returns-4 : tie.Need-returns-4
-returns-4 c = let a = (c .before .before .before .before .before .before .before .before .before .before .args) in step-unknown (a .g) (a .domain) (a .kind) (a .argument) (tablesOf (a .tags .now) (a .valid .now) (a .dirty .now) (a .words .now)) (a .domains) (c .before .before .before .before .before .refusal .ensures) (c .before .before .before .before .if1 .left) (asked-unknown (c .before .before .before .kind-of .result) (c .before .before .match .keys3) ∙ (c .before .before .before .kind-of .ensures)) (c .refused2 .ensures)
+unfolding domainOf
+returns-4 c =
+    let sized = c .before .before .before .before .before .before .before .before .before .before .before .before .before .before .before .before .before .before .before .before in
+    let entry = sized .before .before .before .before .before .before in
+    let asked = c .before .before .before .before .before .before .before .before .before .before .before .before .before .before .before .before .before .kind-of in
+    step-policy (entry .args .g) (entry .args .domain) (entry .args .kind) (entry .args .argument) (lent entry) (entry .args .t6) (is-shaped sized)
+    (asked .result) (asked .ensures) (sized .before .sizes .ensures) (sized .if1 .left) (c .before .before .before .before .before .before .before .before .before .before .before .before .before .before .before .before .before .before .before .if2 .left)
+    (c .before .before .before .before .before .before .before .before .before .before .before .before .before .before .before .before .match .keys2) (c .before .before .before .before .before .before .before .before .before .before .before .before .before .before .policies-of .ensures) (c .before .before .before .before .before .before .before .before .before .policy .ensures) (c .put-back2 .ensures)
+
+returns-5 : tie.Need-returns-5
+returns-5 c =
+    let sized = c .before .before .before .before .before .before in
+    let entry = sized .before .before .before .before .before .before in
+    let asked = c .before .before .before .kind-of in
+    step-unknown (entry .args .g) (entry .args .domain) (entry .args .kind) (entry .args .argument) (lent entry) (entry .args .t6)
+    (asked .result) (asked .ensures) (sized .before .sizes .ensures) (sized .if1 .left) (c .before .before .before .before .before .if2 .left)
+    (c .before .before .match .keys3) (c .refused3 .ensures)
 
 pub step-spec : {M : Type 1} → statement M
 step-spec =
     tie.close
     (tie.spec
-    refusal-requires
+    sizes-requires
     refused-requires
     returns
+    refused-requires-2
+    returns-2
+    mul-own
+    element-copy-out-own
     kind-of-requires
     enum-known-asked
-    maps-of-requires
-    use-set-requires
-    used-requires
+    line-requires
+    put-back-requires
     enum-told
-    maps-of-requires-2
-    new-maps-requires
-    sweep-sets-requires
-    changed-requires
+    policies-of-requires
+    policy-requires
+    put-back-requires-2
     enum-told-2
-    refused-requires-2
+    refused-requires-3
     same-length
     same-length-2
     same-length-3
     same-length-4
-    returns-2
+    returns-3
     same-length-5
     same-length-6
     same-length-7
     same-length-8
-    returns-3
-    returns-4)
+    returns-4
+    returns-5)

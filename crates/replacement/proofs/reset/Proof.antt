@@ -1,9 +1,11 @@
 -- `replacement::reset` meets its contract.
-use mathlib.Core.Path.{sym, _∙_}
-use borrow.Author.Needs.{needs}
+use mathlib.Core.Path.{sym, ap, _∙_}
 use borrow.Author.Tests.{not-true}
 use Rattle.replacement.specs.Calls.{resetOf}
-use Rattle.replacement.proofs.CallLaws.{sized, either-reach, first-within, second-within, tree-reset, nru-reset}
+use Rattle.replacement.specs.Change.{changeBy}
+use Rattle.replacement.specs.declared.Change.{Change}
+use Rattle.replacement.proofs.CallLaws.{either-reach, reset-given}
+use borrow.Author.Needs.{needs}
 use Rattle.replacement.proofs.reset.Statement.{statement}
 use Rattle.replacement.proofs.reset.Tie as tie
 
@@ -21,33 +23,21 @@ returns-2 : tie.Need-returns-2
 unfolding resetOf
 returns-2 c =
     let a = c .before .before .before .before .args in
-    rw ((sym (c .before .before .before .in-limits .ensures) ∙ c .before .before .if1 .taken), either-reach (a .ways) (a .old) (a .new) ∙ sym (c .before .fits2 .ensures) ∙ c .if2 .left)
+    rw (sym (c .before .before .before .in-limits .ensures) ∙ c .before .before .if1 .taken, either-reach (a .ways) (a .old) (a .new) ∙ sym (c .before .fits2 .ensures) ∙ c .if2 .left)
+
+change-of-requires : tie.Need-change-of-requires
+change-of-requires c κs = search needs
 
 changed-requires : tie.Need-changed-requires
-changed-requires c κs =
-    let start = c .before .before .before .before .before in
-    let a = start .args in
-    let limits = (sym (c .before .before .before .before .in-limits .ensures) ∙ c .before .before .before .if1 .taken) in
-    let reach = not-true _ (sym (c .before .before .fits2 .ensures) ∙ c .before .if2 .taken) in (
-      sized (a .ways) (a .rule) limits,
-      (
-        first-within (a .ways) (a .rule) (a .word) (a .old) (a .new) limits reach (start .fits .old .fits),
-        second-within (a .ways) (a .rule) (a .word) (a .old) (a .new) limits reach (start .fits .new .fits),
-      ),
-    )
+changed-requires c κs = search needs
 
 returns-3 : tie.Need-returns-3
 returns-3 c =
-    let a = c .before .before .before .before .before .before .args in
-    tree-reset (a .ways) (a .rule) (a .word) (a .old) (a .new) (sym (c .before .before .before .before .before .in-limits .ensures) ∙ c .before .before .before .before .if1 .taken) (not-true _ (sym (c .before .before .before .fits2 .ensures) ∙ c .before .before .if2 .taken)) (c .before .if3 .taken) (c .changed .ensures)
-
-changed-requires-2 : tie.Need-changed-requires-2
-changed-requires-2 c κs = search needs
-
-returns-4 : tie.Need-returns-4
-returns-4 c =
-    let a = c .before .before .before .before .before .before .args in
-    nru-reset (a .ways) (a .rule) (a .word) (a .old) (a .new) (sym (c .before .before .before .before .before .in-limits .ensures) ∙ c .before .before .before .before .if1 .taken) (not-true _ (sym (c .before .before .before .fits2 .ensures) ∙ c .before .before .if2 .taken)) (c .before .if3 .left) (c .changed2 .ensures)
+    let entry = c .before .before .before .before .before .before in
+    let a = entry .args in
+    reset-given (a .ways) (a .rule) (a .word) (a .old) (a .new) (entry .fits .old .fits) (entry .fits .new .fits)
+    (sym (c .before .before .before .before .before .in-limits .ensures) ∙ c .before .before .before .before .if1 .taken) (not-true _ (sym (c .before .before .before .fits2 .ensures) ∙ c .before .before .if2 .taken))
+    (c .changed .ensures ∙ ap (λ (x : Change). changeBy x (a .word)) (c .before .change-of .ensures))
 
 pub reset-spec : {M : Type 1} → statement M
 reset-spec =
@@ -57,7 +47,6 @@ reset-spec =
     returns
     fits-requires
     returns-2
+    change-of-requires
     changed-requires
-    returns-3
-    changed-requires-2
-    returns-4)
+    returns-3)

@@ -3,17 +3,16 @@ use borrow.Author.Needs.{needs}
 use mathlib.Core.Path.{_≡_, sym, ap, _∙_}
 use lib.ListN.{length}
 use Rattle.row.specs.Calls.{lookupOf}
-use Rattle.row.proofs.ReadLaws.{length-limits}
 use Rattle.row.proofs.WorkLaws.{lookup-hit, lookup-absent}
 use Rattle.row.proofs.lookup.Statement.{statement}
 use Rattle.row.proofs.lookup.Tie as tie
 
-in-limits-requires : tie.Need-in-limits-requires
-in-limits-requires c κs = search needs
+is-ways-requires : tie.Need-is-ways-requires
+is-ways-requires c κs = search needs
 
 returns : tie.Need-returns
 unfolding lookupOf
-returns c = rw (sym (length-limits _) ∙ sym (c .before .in-limits .ensures) ∙ c .if1 .left)
+returns c = rw (sym (c .before .is-ways .ensures) ∙ c .if1 .left)
 
 as-read-requires : tie.Need-as-read-requires
 as-read-requires c κs = search needs
@@ -24,16 +23,16 @@ hit-way-requires c κs = search needs
 returns-2 : tie.Need-returns-2
 returns-2 c =
     let a = c .before .before .before .before .before .before .args in
-    lookup-hit (a .tags .now) (a .valid) (a .hit) (a .tag) (sym (length-limits _) ∙ sym (c .before .before .before .before .in-limits .ensures) ∙ c .before .before .before .if1 .taken)
+    lookup-hit (a .tags .now) (a .valid) (a .hit) (a .tag) (sym (c .before .before .before .before .is-ways .ensures) ∙ c .before .before .before .if1 .taken)
     (c .before .before .as-read .result) (c .before .before .as-read .ensures) (c .before .hit-way .ensures) (c .if2 .taken)
 
 returns-3 : tie.Need-returns-3
 returns-3 c =
     let a = c .before .before .before .before .before .before .args in
-    lookup-absent (a .tags .now) (a .valid) (a .hit) (a .tag) (sym (length-limits _) ∙ sym (c .before .before .before .before .in-limits .ensures) ∙ c .before .before .before .if1 .taken)
+    lookup-absent (a .tags .now) (a .valid) (a .hit) (a .tag) (sym (c .before .before .before .before .is-ways .ensures) ∙ c .before .before .before .if1 .taken)
     (c .before .before .as-read .result) (c .before .before .as-read .ensures) (c .before .hit-way .ensures) (c .if2 .left)
 
 pub lookup-spec : {M : Type 1} → statement M
 lookup-spec =
     tie.close
-    (tie.spec in-limits-requires returns as-read-requires hit-way-requires returns-2 returns-3)
+    (tie.spec is-ways-requires returns as-read-requires hit-way-requires returns-2 returns-3)

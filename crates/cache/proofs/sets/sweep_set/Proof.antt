@@ -1,47 +1,52 @@
 -- `cache::sets::sweep_set` meets its contract.
-use borrow.Author.Needs.{needs}
-use Rattle.row.specs.Calls.{cleanOf}
+use Rattle.row.specs.Sweep.{sweepBy}
+use Rattle.cache.specs.Tables.{Tables}
 use Rattle.cache.specs.Step.{tablesOf}
 use Rattle.cache.proofs.SetLaws.{row-done}
 use Rattle.cache.proofs.SweepLaws.{swept-is}
+use borrow.Author.Needs.{needs}
 use Rattle.cache.proofs.sets.sweep_set.Statement.{statement}
 use Rattle.cache.proofs.sets.sweep_set.Tie as tie
+
+-- the tables as they were lent
+abbrev lent : tie.Start → Tables
+lent c = tablesOf (c .args .tags .now) (c .args .valid .now) (c .args .dirty .now) (c .args .words .now)
 
 span-of-requires : tie.Need-span-of-requires
 span-of-requires c κs = search needs
 
-mul-t16 : tie.Need-mul-t16
-mul-t16 c = search needs
+mul-t15 : tie.Need-mul-t15
+mul-t15 c = search needs
 
-slice-read-t18 : tie.Need-slice-read-t18
-slice-read-t18 c = search needs
+slice-read-t17 : tie.Need-slice-read-t17
+slice-read-t17 c = search needs
 
-mul-t19 : tie.Need-mul-t19
-mul-t19 c = search needs
+mul-t18 : tie.Need-mul-t18
+mul-t18 c = search needs
 
-slice-read-t21 : tie.Need-slice-read-t21
-slice-read-t21 c = search needs
+slice-read-t20 : tie.Need-slice-read-t20
+slice-read-t20 c = search needs
 
-mul-t22 : tie.Need-mul-t22
-mul-t22 c = search needs
+mul-t21 : tie.Need-mul-t21
+mul-t21 c = search needs
 
-slice-read-t24 : tie.Need-slice-read-t24
-slice-read-t24 c = search needs
+slice-read-t23 : tie.Need-slice-read-t23
+slice-read-t23 c = search needs
 
-mul-clean : tie.Need-mul-clean
-mul-clean c = search needs
+mul-swept : tie.Need-mul-swept
+mul-swept c = search needs
 
-sub-clean : tie.Need-sub-clean
-sub-clean c = search needs
+sub-swept : tie.Need-sub-swept
+sub-swept c = search needs
 
-part-clean-start : tie.Need-part-clean-start
-part-clean-start c = search needs
+part-swept-start : tie.Need-part-swept-start
+part-swept-start c = search needs
 
-part-clean-end : tie.Need-part-clean-end
-part-clean-end c = search needs
+part-swept-end : tie.Need-part-swept-end
+part-swept-end c = search needs
 
-clean-requires : tie.Need-clean-requires
-clean-requires c κs = search needs
+swept-requires : tie.Need-swept-requires
+swept-requires c κs = search needs
 
 mul-valid : tie.Need-mul-valid
 mul-valid c = search needs
@@ -78,11 +83,14 @@ same-length-4 c = search needs
 
 returns : tie.Need-returns
 returns c =
-    let a = c .before .before .before .before .before .before .before .before .before .before .before .before .before .before .args in
-    let t = tablesOf (a .tags .now) (a .valid .now) (a .dirty .now) (a .words .now) in
-    swept-is (a .g) (a .old) (a .new) t (c .before .before .before .before .before .before .before .before .before .before .before .before .before .before .pre .0) (a .set) (c .before .before .before .before .before .before .before .before .before .before .before .before .before .before .pre .1)
-    (row-done (a .g .ways) (a .set) (c .before .before .before .before .before .before .before .before .before .span-of .result .start) (c .before .before .before .before .before .before .before .before .before .span-of .result .stop) (cleanOf (a .g .rule) (a .old) (a .new))
-    (a .tags .now) (a .valid .now) (a .dirty .now) (a .words .now) (c .before .before .before .before .clean .result) (c .before .before .before .before .clean .last .0) (c .before .before .before .before .before .before .before .before .before .span-of .ensures .start-is) (c .before .before .before .before .before .before .before .before .before .span-of .ensures .stop-is) (c .before .before .before .before .clean .ensures))
+    let span = c .before .before .before .before .before .before .before .before .before .span-of in
+    let swept = c .before .before .before .before .swept in
+    let entry = c .before .before .before .before .before .before .before .before .before .before .before .before .before .before in
+    let a = entry .args in
+    swept-is (a .g) (a .sweep) (a .set) (lent entry)
+    (row-done (a .g .ways) (a .set) (span .result .start) (span .result .stop) (sweepBy (a .sweep))
+    (a .tags .now) (a .valid .now) (a .dirty .now) (a .words .now) (swept .result) (swept .last .0)
+    (span .ensures .start-is) (span .ensures .stop-is) (swept .ensures))
     (c .drops-of .ensures)
 
 pub sweep-set-spec : {M : Type 1} → statement M
@@ -90,17 +98,17 @@ sweep-set-spec =
     tie.close
     (tie.spec
     span-of-requires
-    mul-t16
-    slice-read-t18
-    mul-t19
-    slice-read-t21
-    mul-t22
-    slice-read-t24
-    mul-clean
-    sub-clean
-    part-clean-start
-    part-clean-end
-    clean-requires
+    mul-t15
+    slice-read-t17
+    mul-t18
+    slice-read-t20
+    mul-t21
+    slice-read-t23
+    mul-swept
+    sub-swept
+    part-swept-start
+    part-swept-end
+    swept-requires
     mul-valid
     slice-write-valid
     mul-dirty

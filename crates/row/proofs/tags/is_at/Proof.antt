@@ -1,24 +1,31 @@
 -- `row::tags::is_at` meets its contract.
-use borrow.Author.Needs.{needs}
 use mathlib.Core.Path.{sym, _∙_}
+use mathlib.Core.Bool.{and-true, and-false}
+use lib.ListN.{getD}
+use borrow.Author.Tests.{eq-eqb, ne-eqb}
+use Rattle.waymap.specs.Bits.{bit}
+use borrow.Author.Needs.{needs}
 use Rattle.row.proofs.tags.is_at.Statement.{statement}
 use Rattle.row.proofs.tags.is_at.Tie as tie
+
+mul-if1 : tie.Need-mul-if1
+mul-if1 c = search needs
+
+shared-slice-read-if1 : tie.Need-shared-slice-read-if1
+shared-slice-read-if1 c = search needs
 
 has-requires : tie.Need-has-requires
 has-requires c κs = search needs
 
-mul-result : tie.Need-mul-result
-mul-result c = search needs
-
-shared-slice-read-result : tie.Need-shared-slice-read-result
-shared-slice-read-result c = search needs
-
 returns : tie.Need-returns
-returns c = rw (sym (c .before .before .has .ensures) ∙ c .before .if1 .taken)
+returns c =
+    let a = c .before .before .before .before .args in
+    c .has .ensures ∙ sym (rw (eq-eqb (getD (a .tags .now) (a .way) 0) (a .tag) (c .before .if1 .taken)) (and-true (bit (a .map) (a .way))))
 
 returns-2 : tie.Need-returns-2
-returns-2 c = rw (sym (c .before .has .ensures) ∙ c .if1 .left)
+returns-2 c =
+    let a = c .before .before .before .args in
+    sym (rw (ne-eqb (getD (a .tags .now) (a .way) 0) (a .tag) (c .if1 .left)) (and-false (bit (a .map) (a .way))))
 
 pub is-at-spec : {M : Type 1} → statement M
-is-at-spec =
-    tie.close (tie.spec has-requires mul-result shared-slice-read-result returns returns-2)
+is-at-spec = tie.close (tie.spec mul-if1 shared-slice-read-if1 has-requires returns returns-2)

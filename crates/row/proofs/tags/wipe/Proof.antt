@@ -1,51 +1,39 @@
--- `row::tags::wipe` meets its contract. The invariant: the tags below are done.
-use mathlib.Core.Path.{ap, _∙_}
-use mathlib.Core.Bool.{Bool, cond}
-use Prim.Native.Nat.{ℕ, _-_}
+-- `row::tags::wipe` meets its contract. The invariant: what is left of the map is still to be done.
+use Prim.Native.Nat.{_-_}
 use native.Mathlib.Omega.{arith}
-use lib.ListN.{length, getD, length-set}
-use Rattle.waymap.specs.Bits.{bit}
-use Rattle.row.proofs.TagLaws.{Wiping, begin, turned, end}
+use lib.Bits.{and-le-r}
+use Rattle.row.proofs.TagLaws.{Wiping, begin, way-lt, turned, end}
 use Rattle.row.proofs.tags.wipe.Statement.{statement}
 use Rattle.row.proofs.tags.wipe.Tie as tie
 
 abbrev Inv-loop : tie.InvT-loop
-Inv-loop tags₀ map way₀ tags way = Wiping (bit map) tags₀ tags way
+Inv-loop tags₀ map rest₀ tags rest = Wiping map tags₀ tags rest
 
 abbrev μ-loop : tie.MeasureT-loop
-μ-loop tags₀ map way₀ tags way = length tags - way
+μ-loop tags₀ map rest₀ tags rest = rest
 
 loop-holds : tie.Need-loop-holds Inv-loop μ-loop
-loop-holds c = begin _ _
+loop-holds c = begin (c .before .args .map) (c .before .args .tags .now) (c .before .fits .map .fits) (c .before .pre)
 
-mul-kept : tie.Need-mul-kept Inv-loop μ-loop
-mul-kept c = omega arith
-
-slice-read-kept : tie.Need-slice-read-kept Inv-loop μ-loop
-slice-read-kept c = omega arith
-
-has-requires : tie.Need-has-requires Inv-loop μ-loop
-has-requires c κs = tt
-
-kept-requires : tie.Need-kept-requires Inv-loop μ-loop
-kept-requires c κs = tt
+lowest-way-requires : tie.Need-lowest-way-requires Inv-loop μ-loop
+lowest-way-requires c κs = tt
 
 mul-tags : tie.Need-mul-tags Inv-loop μ-loop
-mul-tags c = omega arith
+mul-tags c = omega (arith, way-lt (c .before .before .loop .inv) (c .before .loop-test .taken) (c .lowest-way .ensures))
 
 slice-write-tags : tie.Need-slice-write-tags Inv-loop μ-loop
-slice-write-tags c = omega arith
+slice-write-tags c = way-lt (c .before .before .loop .inv) (c .before .loop-test .taken) (c .lowest-way .ensures)
 
-add-way : tie.Need-add-way Inv-loop μ-loop
-add-way c = omega arith
+sub-rest : tie.Need-sub-rest Inv-loop μ-loop
+sub-rest c = omega (arith, c .before .loop-test .taken)
 
 loop-less : tie.Need-loop-less Inv-loop μ-loop
-loop-less c = simp length-set (omega arith)
+loop-less c =
+    let rest = c .before .before .loop .rest in
+    omega (arith, and-le-r rest (rest - 1), c .before .loop-test .taken)
 
 loop-again : tie.Need-loop-again Inv-loop μ-loop
-loop-again c =
-    let l = c .before .before .before .before .loop in
-    turned (l .inv) (c .before .before .before .loop-test .taken) (c .kept .ensures ∙ ap (λ (b : Bool). cond b 0 (getD (l .tags) (l .way) 0)) (c .before .has .ensures))
+loop-again c = turned (c .before .before .loop .inv) (c .before .loop-test .taken) (c .lowest-way .ensures)
 
 same-length : tie.Need-same-length Inv-loop μ-loop
 same-length c = c .before .loop .inv .long
@@ -60,13 +48,10 @@ wipe-spec =
     Inv-loop
     μ-loop
     loop-holds
-    mul-kept
-    slice-read-kept
-    has-requires
-    kept-requires
+    lowest-way-requires
     mul-tags
     slice-write-tags
-    add-way
+    sub-rest
     loop-less
     loop-again
     same-length

@@ -1,11 +1,12 @@
 -- `row::update::dropped` meets its contract.
-use borrow.Author.Needs.{needs}
 use mathlib.Core.Path.{ap, ap₂, _∙_}
 use mathlib.Core.Bool.{Bool, _&&_}
 use Rattle.waymap.specs.Bits.{bit}
 use Rattle.waymap.proofs.BitLaws.{bit-and}
 use Rattle.waymap.proofs.WayLaws.{count-ext}
+use Rattle.row.specs.Sweep.{drops}
 use Rattle.row.specs.declared.Answer.the-variants.{Policy}
+use borrow.Author.Needs.{needs}
 use Rattle.row.proofs.update.dropped.Statement.{statement}
 use Rattle.row.proofs.update.dropped.Tie as tie
 
@@ -16,6 +17,7 @@ count-ways-requires-2 : tie.Need-count-ways-requires-2
 count-ways-requires-2 c κs = search needs
 
 returns : tie.Need-returns
+unfolding drops
 returns c =
     let a = c .before .before .before .before .args in
     ap₂ Policy

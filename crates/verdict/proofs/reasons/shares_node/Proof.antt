@@ -6,16 +6,16 @@ use native.Mathlib.Omega.{arith}
 use lib.Dec.{eqb}
 use Rattle.replacement.specs.Rule.{Rule, ruleOf}
 use Rattle.waymap.proofs.WayLaws.{Passed, passed-none, passed-more, passed-found, passed-all}
-use Rattle.verdict.specs.Domains.{policies}
+use Rattle.verdict.specs.Calls.{readBy}
 use Rattle.verdict.specs.Refusal.{sharesNode}
 use Rattle.verdict.proofs.reasons.shares_node.Statement.{statement}
 use Rattle.verdict.proofs.reasons.shares_node.Tie as tie
 
 abbrev Inv-loop : tie.InvT-loop
-Inv-loop g domains d fill e₀ e = Passed (λ (f : ℕ). not (eqb d f) && ruleOf (g .rule) (g .ways) .shares fill (policies (g .ways) domains f .fill)) 16 e
+Inv-loop g policies d fill e₀ e = Passed (λ (f : ℕ). not (eqb d f) && ruleOf (g .rule) (g .ways) .shares fill (readBy (g .ways) policies f .fill)) 16 e
 
 abbrev μ-loop : tie.MeasureT-loop
-μ-loop g domains d fill e₀ e = 16 - e
+μ-loop g policies d fill e₀ e = 16 - e
 
 loop-holds : tie.Need-loop-holds Inv-loop μ-loop
 loop-holds c = passed-none _ _

@@ -6,16 +6,16 @@ use native.Mathlib.Omega.{arith}
 use lib.Dec.{eqb}
 use Rattle.waymap.specs.Bits.{bit, any}
 use Rattle.waymap.proofs.WayLaws.{Passed, passed-none, passed-more, passed-found, passed-all}
-use Rattle.verdict.specs.Domains.{policies}
+use Rattle.verdict.specs.Calls.{readBy}
 use Rattle.verdict.specs.Refusal.{sharesWay}
 use Rattle.verdict.proofs.reasons.shares_way.Statement.{statement}
 use Rattle.verdict.proofs.reasons.shares_way.Tie as tie
 
 abbrev Inv-loop : tie.InvT-loop
-Inv-loop ways domains d hit e₀ e = Passed (λ (f : ℕ). not (eqb d f) && any 16 (λ (w : ℕ). bit hit w && bit (policies ways domains f .hit) w)) 16 e
+Inv-loop ways policies d hit e₀ e = Passed (λ (f : ℕ). not (eqb d f) && any 16 (λ (w : ℕ). bit hit w && bit (readBy ways policies f .hit) w)) 16 e
 
 abbrev μ-loop : tie.MeasureT-loop
-μ-loop ways domains d hit e₀ e = 16 - e
+μ-loop ways policies d hit e₀ e = 16 - e
 
 loop-holds : tie.Need-loop-holds Inv-loop μ-loop
 loop-holds c = passed-none _ _

@@ -1,0 +1,72 @@
+-- `cache::work::policy` meets its contract.
+use Rattle.cache.specs.Tables.{Tables}
+use Rattle.cache.specs.Step.{tablesOf}
+use Rattle.cache.proofs.DeedLaws.{policy-down, policy-done}
+use borrow.Author.Needs.{needs}
+use Rattle.cache.proofs.work.policy.Statement.{statement}
+use Rattle.cache.proofs.work.policy.Tie as tie
+
+-- the tables as they were lent
+abbrev lent : tie.Start → Tables
+lent c = tablesOf (c .args .tags .now) (c .args .valid .now) (c .args .dirty .now) (c .args .words .now)
+
+policy-refusal-requires : tie.Need-policy-refusal-requires
+policy-refusal-requires c κs = search needs
+
+turned-down-requires : tie.Need-turned-down-requires
+turned-down-requires c κs = search needs
+
+returns : tie.Need-returns
+returns c =
+    let entry = c .before .before .before .before .before .before .before in
+    policy-down (entry .args .g) (entry .args .own) (entry .args .policies) (entry .args .domain) (entry .args .argument) (lent entry) (c .before .before .policy-refusal .ensures)
+    (c .before .if1 .taken) (c .turned-down .ensures)
+
+new-maps-requires : tie.Need-new-maps-requires
+new-maps-requires c κs = search needs
+
+sweep-of-requires : tie.Need-sweep-of-requires
+sweep-of-requires c κs = search needs
+
+sweep-sets-requires : tie.Need-sweep-sets-requires
+sweep-sets-requires c κs = search needs
+
+after-change-requires : tie.Need-after-change-requires
+after-change-requires c κs = search needs
+
+same-length : tie.Need-same-length
+same-length c = search needs
+
+same-length-2 : tie.Need-same-length-2
+same-length-2 c = search needs
+
+same-length-3 : tie.Need-same-length-3
+same-length-3 c = search needs
+
+same-length-4 : tie.Need-same-length-4
+same-length-4 c = search needs
+
+returns-2 : tie.Need-returns-2
+returns-2 c =
+    let asked = c .before .before .before .before .before .before .before .before .before .before .before .before .before .before .before .before .before in
+    let entry = asked .before .before .before .before .before in
+    policy-done (entry .args .g) (entry .args .own) (entry .args .policies) (entry .args .domain) (entry .args .argument) (lent entry) (asked .policy-refusal .ensures)
+    (entry .pre) (c .before .before .before .before .before .before .before .before .before .before .before .before .before .before .before .before .if1 .left) (c .before .before .before .before .before .before .before .before .before .before .before .before .before .before .before .new-maps .ensures) (c .before .before .before .before .before .before .before .before .before .before .before .before .before .before .sweep-of .ensures)
+    (c .before .before .before .before .before .before .before .before .before .sweep-sets .ensures) (c .after-change .ensures)
+
+pub policy-spec : {M : Type 1} → statement M
+policy-spec =
+    tie.close
+    (tie.spec
+    policy-refusal-requires
+    turned-down-requires
+    returns
+    new-maps-requires
+    sweep-of-requires
+    sweep-sets-requires
+    after-change-requires
+    same-length
+    same-length-2
+    same-length-3
+    same-length-4
+    returns-2)

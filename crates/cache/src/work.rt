@@ -1,0 +1,75 @@
+// A step of one domain, given its own record: the verdict on it, and its work on the tables.
+use crate::account;
+use crate::account::Used;
+use crate::sets;
+use row::Maps;
+use verdict::Domain;
+use verdict::Geometry;
+use verdict::Policies;
+ghost use mathlib.Core.Path.{_≡_};
+ghost use Rattle.cache.specs.Step.{tablesOf};
+ghost use Rattle.cache.specs.Inside.{Shaped, deedOf, lineDeed, policyDeed};
+
+// An access or a flush.
+pub fn line(
+    g: Geometry,
+    tags: &mut [u64],
+    valid: &mut [u16],
+    dirty: &mut [u16],
+    words: &mut [u64],
+    own: Domain,
+    flush: bool,
+    store: bool,
+    address: u64,
+) -> Used
+    requires { ⌜ Shaped g (tablesOf (now tags) (now valid) (now dirty) (now words)) ⌝ }
+    ensures {
+        λ r.
+        ⌜ deedOf r (tablesOf (now (tags .exit)) (now (valid .exit)) (now (dirty .exit)) (now (words .exit)))
+        ≡ lineDeed g own flush store address (tablesOf (now (tags .entry)) (now (valid .entry)) (now (dirty .entry)) (now (words .entry))) ⌝
+    }
+{
+    let stored = Maps {
+        hit: own.hit,
+        fill: own.fill,
+    };
+    let number = verdict::line_refusal(g.ways, stored, own.counts);
+    if number != 0 {
+        return account::turned_down(number, own);
+    }
+    let answer = sets::use_set(g, tags, valid, dirty, words, stored, flush, store, address);
+    account::after_use(own, answer)
+}
+
+// A change of policy, given all policies.
+pub fn policy(
+    g: Geometry,
+    tags: &mut [u64],
+    valid: &mut [u16],
+    dirty: &mut [u16],
+    words: &mut [u64],
+    own: Domain,
+    policies: Policies,
+    domain: usize,
+    argument: u64,
+) -> Used
+    requires { ⌜ Shaped g (tablesOf (now tags) (now valid) (now dirty) (now words)) ⌝ }
+    ensures {
+        λ r.
+        ⌜ deedOf r (tablesOf (now (tags .exit)) (now (valid .exit)) (now (dirty .exit)) (now (words .exit)))
+        ≡ policyDeed g own policies domain argument
+        (tablesOf (now (tags .entry)) (now (valid .entry)) (now (dirty .entry)) (now (words .entry))) ⌝
+    }
+{
+    let number = verdict::policy_refusal(g, policies, domain, argument);
+    if number != 0 {
+        return account::turned_down(number, own);
+    }
+    let old = Maps {
+        hit: own.hit,
+        fill: own.fill,
+    };
+    let sweep = row::sweep_of(g.ways, g.rule, old, verdict::new_maps(argument));
+    let drops = sets::sweep_sets(g, tags, valid, dirty, words, sweep);
+    account::after_change(own, argument, drops)
+}

@@ -1,0 +1,4 @@
+-- The laws that the crates above cite.
+pub mod NruLaws
+pub mod NruWordLaws
+pub mod WorkedCases

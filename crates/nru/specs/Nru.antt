@@ -1,0 +1,28 @@
+-- NRU, for any number W of ways: "bit w belongs to way w". A row of bits m is a fill map, and a row of bits b a replacement word.
+use mathlib.Core.Bool.{Bool, true, false, cond, not, _&&_, _||_, xor}
+use Prim.Native.Nat.{ℕ}
+use lib.Dec.{eqb, ltb}
+use Rattle.waymap.specs.Bits.{Bits, any, lowest}
+
+-- "The victim is the lowest way of the fill map whose bit is one; if there is none, all bits of the fill map become one and its lowest
+-- way is the victim." The word before the touch, and the victim by that word.
+unfoldable pub before : ℕ → Bits → Bits → Bits
+before W m b w = cond (any W (λ v. m v && b v)) (b w) (m w || b w)
+
+unfoldable pub victim : ℕ → Bits → Bits → ℕ
+victim W m b = lowest W (λ w. m w && before W m b w)
+
+-- "Touching w clears its bit if w is in the fill map."
+unfoldable pub touch : Bits → ℕ → Bits → Bits
+touch m w b v = cond (m w && eqb w v) false (b v)
+
+-- "NRU bits of ways in exactly one of the old and new fill maps become one."
+unfoldable pub changes : Bits → Bits → Bits
+changes old new w = xor (old w) (new w)
+
+unfoldable pub reset : Bits → Bits → Bits → Bits
+reset old new b w = cond (changes old new w) true (b w)
+
+-- "under NRU the low W bits of each replacement word are one"
+unfoldable pub fresh : ℕ → Bits
+fresh W w = ltb w W

@@ -1,0 +1,25 @@
+-- A change of fill map, worked out from the maps once and then done to any number of words. Law `change-resets`: it is `resetOf`.
+use mathlib.Core.Bool.{not, _&&_}
+use Prim.Native.Nat.{ℕ, zero, suc}
+use Rattle.waymap.specs.Bits.{reaches}
+use Rattle.tree.specs.Calls as Tree
+use Rattle.nru.specs.Calls as Nru
+use Rattle.replacement.specs.Calls.{inLimits, checked}
+use Rattle.replacement.specs.declared.Change.{Change}
+use Rattle.replacement.specs.declared.Change.the-variants.{Clear, Raise, Stay}
+
+-- By rule: nodes that become zero, or ways whose bits become one.
+abbrev pub changeUnder : ℕ → ℕ → ℕ → ℕ → Change
+changeUnder zero W old new = Clear (Tree.changeOf W old new)
+changeUnder (suc r) W old new = Raise (Nru.changeOf old new)
+
+-- Words stay where the call is refused.
+unfoldable pub changeOf : ℕ → ℕ → ℕ → ℕ → Change
+changeOf W rule old new =
+    checked (inLimits W rule) (not (reaches W old) && not (reaches W new)) (λ n. Stay) (changeUnder rule W old new)
+
+-- What becomes of a word.
+abbrev pub changeBy : Change → ℕ → ℕ
+changeBy (Clear nodes) x = Tree.resetOf x nodes
+changeBy (Raise ways) x = Nru.resetOf x ways
+changeBy Stay x = x

@@ -1,0 +1,9 @@
+-- The laws that the crates above cite.
+pub mod TreeLaws
+pub mod EvenLaws
+pub mod LevelLaws
+pub mod PathLaws
+pub mod WalkLaws
+pub mod TreeWordLaws
+pub mod HalfLaws
+pub mod WorkedCases
