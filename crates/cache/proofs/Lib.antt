@@ -5,6 +5,4 @@ pub mod SetLaws
 pub mod SweepLaws
 pub mod DomainLaws
 pub mod StepLaws
-pub mod FillLaws
-pub mod WorkedCases
 pub mod DeedLaws

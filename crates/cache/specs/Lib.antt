@@ -4,5 +4,4 @@ pub mod Tables
 pub mod Domains
 pub mod Step
 pub mod Run
-pub mod Fresh
 pub mod Inside

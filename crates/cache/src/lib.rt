@@ -1,19 +1,15 @@
 // A set-associative cache whose domains each hold their own ways.
 mod account;
-mod fresh;
 mod place;
 mod sets;
 mod work;
 
 use row::Answer;
 use verdict::Asked;
-use verdict::Counts;
-use verdict::Domain;
 use verdict::Domains;
 use verdict::Geometry;
 ghost use mathlib.Core.Path.{_≡_};
 ghost use Rattle.cache.specs.Step.{tablesOf, outcome, step as stepOf};
-ghost use Rattle.cache.specs.Fresh.{freshDomains, madeOf, freshOf};
 
 // A step's answer, and the domains after it.
 pub struct Stepped {
@@ -60,51 +56,5 @@ pub fn step(
             account::put_back(domains, domain, used)
         }
         Asked::Unknown => account::refused(4, domains),
-    }
-}
-
-// The tables become those of a fresh cache. The answer is 0, or 1 or 2 as for a step, and then nothing changes.
-pub fn fresh_tables(
-    g: Geometry,
-    tags: &mut [u64],
-    valid: &mut [u16],
-    dirty: &mut [u16],
-    words: &mut [u64],
-) -> usize
-    ensures {
-        λ r.
-        ⌜ madeOf r (tablesOf (now (tags .exit)) (now (valid .exit)) (now (dirty .exit)) (now (words .exit)))
-        ≡ freshOf g (tablesOf (now (tags .entry)) (now (valid .entry)) (now (dirty .entry)) (now (words .entry))) ⌝
-    }
-{
-    let number = verdict::sizes(g, tags.len(), valid.len(), dirty.len(), words.len());
-    if number != 0 {
-        return number;
-    }
-    let made = replacement::fresh(g.ways, g.rule);
-    fresh::fill_words(tags, 0);
-    fresh::clear_maps(valid);
-    fresh::clear_maps(dirty);
-    fresh::fill_words(words, made.word);
-    0
-}
-
-// Sixteen domains without ways or counts.
-pub fn fresh_domains() -> Domains
-    ensures { λ r. ⌜ r ≡ freshDomains ⌝ }
-{
-    let none = Domain {
-        hit: 0,
-        fill: 0,
-        counts: Counts {
-            hits: 0,
-            misses: 0,
-            evicted: 0,
-            written: 0,
-            flushed: 0,
-        },
-    };
-    Domains {
-        records: [none; 16],
     }
 }

@@ -26,7 +26,7 @@ use Rattle.cache.specs.Tables.{rowAt}
 use Rattle.cache.specs.Step.{State, Outcome, step}
 use Rattle.command.specs.Command.{Command}
 use Rattle.cache.specs.Run.{stepOn, answersOf, finally}
-use Rattle.cache.specs.Fresh.{freshTables, freshDomains, fresh}
+use Rattle.fresh.specs.Fresh.{freshTables, freshDomains, fresh}
 use Rattle.cache.specs.Inside.{Shaped}
 use Rattle.isolation.specs.Purge.{belongs, keeps, purge}
 use Rattle.isolation.specs.StruckOut.{answersTo, ownAnswers, verdicts, SameTo, StruckOut}

@@ -20,7 +20,7 @@ use Rattle.cache.specs.Domains.{putDomain, counted}
 use Rattle.cache.specs.Step.{State, onSet, rowEffect, useLine, newDomain, changePolicy, stepBy, decided, step}
 use Rattle.command.specs.Command.{Command}
 use Rattle.cache.specs.Run.{answersOf, finally}
-use Rattle.cache.specs.Fresh.{freshTables, freshDomains, fresh}
+use Rattle.fresh.specs.Fresh.{freshTables, freshDomains, fresh}
 use Rattle.isolation.specs.Purge.{keeps, purge}
 use Rattle.isolation.specs.StruckOut.{answersTo, ownAnswers, numberOf, verdicts}
 

@@ -81,42 +81,50 @@ fn show_step(code: u16, argument: u64) {
     io::write_all(STDOUT_FILENO, b"\n");
 }
 
-// Writes the steps of a file that the purge of a domain keeps.
+// Writes the steps of a file of n that the purge of a domain keeps. The lists lent have room for n steps.
 fn purge(
     file: &[u8],
+    n: u32,
     domain: usize,
     codes: &mut [u16],
     arguments: &mut [u64],
     kept_codes: &mut [u16],
     kept_arguments: &mut [u64],
-) {
-    let n = tracefile::steps(file);
-    let steps = n as usize;
-    if codes.len() < steps {
-        return;
-    }
-    if arguments.len() < steps {
-        return;
-    }
-    if kept_codes.len() < steps {
-        return;
-    }
-    if kept_arguments.len() < steps {
-        return;
-    }
+)
+    requires { ⌜ n ≤ length (now codes) ⌝ }
+    requires { ⌜ n ≤ length (now arguments) ⌝ }
+    requires { ⌜ n ≤ length (now «kept_codes») ⌝ }
+    requires { ⌜ n ≤ length (now «kept_arguments») ⌝ }
+{
     split(file, n, codes, arguments);
-    let purged = isolation::purge_trace(
-        domain,
-        &codes[0..steps],
-        &arguments[0..steps],
-        &mut kept_codes[0..steps],
-        &mut kept_arguments[0..steps],
-    );
+    let purged = isolation::purge_trace(domain, codes, arguments, kept_codes, kept_arguments);
     let count = purged.count;
-    if steps < count {
+    if (n as usize) < count {
         return;
     }
     show(kept_codes, kept_arguments, count);
+}
+
+// Lends lists of as many steps as the file has.
+fn lend(file: &[u8], domain: usize) {
+    let n = tracefile::steps(file);
+    let steps = n as usize;
+    if 4096 < steps {
+        return;
+    }
+    let mut codes = [0u16; 4096];
+    let mut arguments = [0u64; 4096];
+    let mut kept_codes = [0u16; 4096];
+    let mut kept_arguments = [0u64; 4096];
+    purge(
+        file,
+        n,
+        domain,
+        &mut codes[0..steps],
+        &mut arguments[0..steps],
+        &mut kept_codes[0..steps],
+        &mut kept_arguments[0..steps],
+    );
 }
 
 fn main() {
@@ -131,16 +139,5 @@ fn main() {
     if tracefile::refusal(&file[..count]) == 10 {
         return;
     }
-    let mut codes = [0u16; 4096];
-    let mut arguments = [0u64; 4096];
-    let mut kept_codes = [0u16; 4096];
-    let mut kept_arguments = [0u64; 4096];
-    purge(
-        &file[..count],
-        domain,
-        &mut codes,
-        &mut arguments,
-        &mut kept_codes,
-        &mut kept_arguments,
-    );
+    lend(&file[..count], domain);
 }

@@ -1,2 +1,2 @@
 -- What the program's functions go by.
-pub mod Room
+pub mod Rows

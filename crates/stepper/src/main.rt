@@ -10,7 +10,8 @@ use verdict::Geometry;
 ghost use mathlib.Core.Path.{_≡_};
 ghost use Prim.Native.Nat.{_+_, _*_, _≤_, _<_};
 ghost use lib.ListN.{length};
-ghost use Rattle.stepper.specs.Room.{Room, Small};
+ghost use Rattle.io.specs.Counts.{Counts};
+ghost use Rattle.stepper.specs.Rows.{Small, Rows};
 
 // Puts the n low bytes of a value, and answers the place after them.
 fn put(value: u64, n: usize, out: &mut [u8], at: usize) -> usize
@@ -44,6 +45,7 @@ fn put_maps(domains: Domains, out: &mut [u8])
 fn start_of(set: usize, ways: usize) -> usize
     requires { ⌜ set ≤ 256 ⌝ }
     requires { ⌜ ways ≤ 16 ⌝ }
+    ensures { λ r. ⌜ r ≡ set * ways ⌝ }
     ensures { λ r. ⌜ r ≤ 16 * set ⌝ }
 {
     set * ways
@@ -63,7 +65,8 @@ fn put_tags(tags: &[u64], start: usize, ways: usize, out: &mut [u8], at: usize) 
     at + 8 * ways
 }
 
-fn wide(map: u16) -> u64 {
+// A map as a number of 64 bits.
+fn map_value(map: u16) -> u64 {
     map as u64
 }
 
@@ -78,15 +81,15 @@ fn put_row(
     out: &mut [u8],
     at: usize,
 ) -> usize
-    requires { ⌜ Room (length (now tags)) (length (now valid)) (length (now dirty)) (length (now words)) ⌝ }
+    requires { ⌜ Rows (set + 1) ways (length (now tags)) (length (now valid)) (length (now dirty)) (length (now words)) ⌝ }
     requires { ⌜ set < 256 ⌝ }
     requires { ⌜ ways ≤ 16 ⌝ }
     requires { ⌜ at + 142 ≤ length (now out) ⌝ }
     ensures { λ r. ⌜ r ≤ at + 142 ⌝ }
 {
     put(set as u64, 2, out, at);
-    put(wide(valid[set]), 2, out, at + 2);
-    put(wide(dirty[set]), 2, out, at + 4);
+    put(map_value(valid[set]), 2, out, at + 2);
+    put(map_value(dirty[set]), 2, out, at + 4);
     put(words[set], 8, out, at + 6);
     put_tags(tags, start_of(set, ways), ways, out, at + 14)
 }
@@ -103,12 +106,12 @@ fn put_rows(
     out: &mut [u8],
     at: usize,
 ) -> usize
-    requires { ⌜ Room (length (now tags)) (length (now valid)) (length (now dirty)) (length (now words)) ⌝ }
+    requires { ⌜ Rows to ways (length (now tags)) (length (now valid)) (length (now dirty)) (length (now words)) ⌝ }
     requires { ⌜ from ≤ to ⌝ }
     requires { ⌜ to ≤ 256 ⌝ }
     requires { ⌜ ways ≤ 16 ⌝ }
     requires { ⌜ at + 36352 ≤ length (now out) ⌝ }
-    ensures { λ r. ⌜ r ≤ at + 36352 ⌝ }
+    ensures { λ r. ⌜ Counts r (now (out .exit)) ⌝ }
 {
     let mut next = at;
     let mut set = from;
@@ -119,30 +122,6 @@ fn put_rows(
     next
 }
 
-// The sets of a block's rows.
-pub struct Span {
-    pub from: usize,
-    pub to: usize,
-}
-
-fn span_of(kind: u8, set: usize, sets: usize) -> Span
-    requires { ⌜ set < sets ⌝ }
-    requires { ⌜ sets ≤ 256 ⌝ }
-    ensures { λ r. ⌜ r .from ≤ r .to ⌝ }
-    ensures { λ r. ⌜ r .to ≤ 256 ⌝ }
-{
-    if kind < 4 {
-        return Span {
-            from: set,
-            to: set + 1,
-        };
-    }
-    if kind == 16 {
-        return Span { from: 0, to: sets };
-    }
-    Span { from: 0, to: 0 }
-}
-
 // The set of an address.
 fn set_of(address: u64, sets: usize) -> usize
     requires { ⌜ 0 < sets ⌝ }
@@ -151,11 +130,54 @@ fn set_of(address: u64, sets: usize) -> usize
     (address / 64 % (sets as u64)) as usize
 }
 
+// What a block shows of the tables: the set of its step's argument, and from which set up to which it has rows.
+pub struct Span {
+    pub set: usize,
+    pub from: usize,
+    pub to: usize,
+}
+
+// The span of block i: block 0 stands before the first step, and another after step i - 1.
+fn span_of(file: &[u8], n: u32, i: u32, sets: usize) -> Span
+    requires { ⌜ 0 < sets ⌝ }
+    ensures { λ r. ⌜ r .from ≤ r .to ⌝ }
+    ensures { λ r. ⌜ r .to ≤ sets ⌝ }
+{
+    if i == 0 {
+        return Span {
+            set: 0,
+            from: 0,
+            to: sets,
+        };
+    }
+    let command = tracefile::command_at(file, n, i - 1);
+    let set = set_of(command.argument, sets);
+    let kind = command.kind;
+    if kind < 4 {
+        return Span {
+            set,
+            from: set,
+            to: set + 1,
+        };
+    }
+    if kind == 16 {
+        return Span {
+            set,
+            from: 0,
+            to: sets,
+        };
+    }
+    Span {
+        set,
+        from: 0,
+        to: 0,
+    }
+}
+
 // Writes a block.
 fn show(
     ways: usize,
     domains: Domains,
-    set: usize,
     span: Span,
     tags: &[u64],
     valid: &[u16],
@@ -163,7 +185,7 @@ fn show(
     words: &[u64],
     out: &mut [u8],
 )
-    requires { ⌜ Room (length (now tags)) (length (now valid)) (length (now dirty)) (length (now words)) ⌝ }
+    requires { ⌜ Rows (span .to) ways (length (now tags)) (length (now valid)) (length (now dirty)) (length (now words)) ⌝ }
     requires { ⌜ span .from ≤ span .to ⌝ }
     requires { ⌜ span .to ≤ 256 ⌝ }
     requires { ⌜ ways ≤ 16 ⌝ }
@@ -172,16 +194,15 @@ fn show(
     let from = span.from;
     let to = span.to;
     put_maps(domains, out);
-    put(set as u64, 2, out, 64);
+    put(span.set as u64, 2, out, 64);
     put((to - from) as u64, 2, out, 66);
     let n = put_rows(ways, from, to, tags, valid, dirty, words, out, 68);
     io::write_all(STDOUT_FILENO, &out[..n]);
 }
 
-// Takes step i on the front of the tables, and writes its block. The domains after it are answered.
-fn take_step(
+// Writes block i of a file of n steps, and takes step i, if there is one. The domains after it are answered.
+fn block(
     g: Geometry,
-    cells: usize,
     file: &[u8],
     n: u32,
     i: u32,
@@ -192,34 +213,33 @@ fn take_step(
     domains: Domains,
     out: &mut [u8],
 ) -> Domains
-    requires { ⌜ Room (length (now tags)) (length (now valid)) (length (now dirty)) (length (now words)) ⌝ }
-    requires { ⌜ Small (g .sets) (g .ways) cells ⌝ }
+    requires { ⌜ Small (g .sets) (g .ways) ⌝ }
+    requires { ⌜ Rows (g .sets) (g .ways) (length (now tags)) (length (now valid)) (length (now dirty)) (length (now words)) ⌝ }
     requires { ⌜ 36420 ≤ length (now out) ⌝ }
 {
-    let sets = g.sets;
+    let span = span_of(file, n, i, g.sets);
+    show(g.ways, domains, span, tags, valid, dirty, words, out);
+    if i == n {
+        return domains;
+    }
     let command = tracefile::command_at(file, n, i);
     let stepped = cache::step(
         g,
-        &mut tags[0..cells],
-        &mut valid[0..sets],
-        &mut dirty[0..sets],
-        &mut words[0..sets],
+        tags,
+        valid,
+        dirty,
+        words,
         domains,
         command.domain as usize,
         command.kind,
         command.argument,
     );
-    let set = set_of(command.argument, sets);
-    let next = stepped.domains;
-    let span = span_of(command.kind, set, sets);
-    show(g.ways, next, set, span, tags, valid, dirty, words, out);
-    next
+    stepped.domains
 }
 
-// Writes the blocks of a file that is not refused.
+// Writes the blocks of a file that is not refused, on tables of its geometry.
 fn run(
     g: Geometry,
-    cells: usize,
     file: &[u8],
     tags: &mut [u64],
     valid: &mut [u16],
@@ -227,20 +247,21 @@ fn run(
     words: &mut [u64],
     out: &mut [u8],
 )
-    requires { ⌜ Room (length (now tags)) (length (now valid)) (length (now dirty)) (length (now words)) ⌝ }
-    requires { ⌜ Small (g .sets) (g .ways) cells ⌝ }
+    requires { ⌜ Small (g .sets) (g .ways) ⌝ }
+    requires { ⌜ Rows (g .sets) (g .ways) (length (now tags)) (length (now valid)) (length (now dirty)) (length (now words)) ⌝ }
     requires { ⌜ 36420 ≤ length (now out) ⌝ }
 {
-    let mut domains = begin(g, cells, tags, valid, dirty, words, out);
+    fresh::fresh_tables(g, tags, valid, dirty, words);
+    let mut domains = fresh::fresh_domains();
     let n = tracefile::steps(file);
-    let mut i = 0u32;
-    while i < n {
-        domains = take_step(
+    let last = n as usize;
+    let mut i = 0;
+    while i <= last {
+        domains = block(
             g,
-            cells,
             file,
             n,
-            i,
+            i as u32,
             tags,
             valid,
             dirty,
@@ -252,51 +273,25 @@ fn run(
     }
 }
 
-// Makes the front of the tables fresh, and writes the first block.
-fn begin(
-    g: Geometry,
-    cells: usize,
-    tags: &mut [u64],
-    valid: &mut [u16],
-    dirty: &mut [u16],
-    words: &mut [u64],
-    out: &mut [u8],
-) -> Domains
-    requires { ⌜ Room (length (now tags)) (length (now valid)) (length (now dirty)) (length (now words)) ⌝ }
-    requires { ⌜ Small (g .sets) (g .ways) cells ⌝ }
-    requires { ⌜ 36420 ≤ length (now out) ⌝ }
-{
-    let sets = g.sets;
-    cache::fresh_tables(
-        g,
-        &mut tags[0..cells],
-        &mut valid[0..sets],
-        &mut dirty[0..sets],
-        &mut words[0..sets],
-    );
-    let domains = cache::fresh_domains();
-    let span = Span { from: 0, to: sets };
-    show(g.ways, domains, 0, span, tags, valid, dirty, words, out);
-    domains
-}
-
-// Lends the tables and the output.
+// Lends the front of the tables, and the output.
 fn lend(g: Geometry, cells: usize, file: &[u8])
-    requires { ⌜ Small (g .sets) (g .ways) cells ⌝ }
+    requires { ⌜ Small (g .sets) (g .ways) ⌝ }
+    requires { ⌜ cells ≡ g .sets * g .ways ⌝ }
+    requires { ⌜ cells ≤ 4096 ⌝ }
 {
     let mut tags = [0u64; 4096];
     let mut valid = [0u16; 256];
     let mut dirty = [0u16; 256];
     let mut words = [0u64; 256];
     let mut out = [0u8; 36420];
+    let sets = g.sets;
     run(
         g,
-        cells,
         file,
-        &mut tags,
-        &mut valid,
-        &mut dirty,
-        &mut words,
+        &mut tags[0..cells],
+        &mut valid[0..sets],
+        &mut dirty[0..sets],
+        &mut words[0..sets],
         &mut out,
     );
 }

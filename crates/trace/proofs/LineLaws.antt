@@ -5,7 +5,7 @@ use mathlib.Core.Logic.{_⊎_, inl, inr}
 use Prim.Native.Nat.{ℕ, zero, suc, _+_, _-_, _*_, _≤_, _<_}
 use native.Mathlib.Omega.{arith}
 use lib.Dec.{eqb}
-use lib.ListN.{length}
+use lib.ListN.{length, take, length-take}
 use borrow.Author.Tests.{eq-eqb, ne-eqb}
 use denote.Enum.Declared.{tagOf}
 use Rattle.row.proofs.Answer.{the-type}
@@ -18,7 +18,8 @@ use Rattle.verdict.specs.Domains.{domainOf}
 use Rattle.verdict.specs.declared.Domain.{Domain}
 use Rattle.verdict.specs.declared.Domains.{Domains}
 use Rattle.trace.specs.Listing.{decimal, line, domainLine, domainPart, domainLines}
-use Rattle.trace.specs.Inside.{Written, writtenOf, append}
+use Rattle.trace.specs.Inside.{Written, writtenOf, append, Says}
+use Rattle.trace.specs.declared.lines.Phrase.{Phrase}
 use Rattle.trace.proofs.TextLaws.{append-append, append-none, piece-long}
 
 -- ---- a step's line
@@ -32,6 +33,16 @@ step-is place word rest w e f =
     ∙ ap (append (line (word ∷ rest))) e
     ∙ append-append (decimal place ++ 32 ∷ []) (line (word ∷ rest)) w
     ∙ ap (λ (xs : List ℕ). append xs w) (append-assoc (decimal place) (32 ∷ []) (line (word ∷ rest)))
+
+-- A part up to n has at most n elements.
+pub part-short : {n m : ℕ} (xs : List ℕ) → n ≤ m → length (take n xs) ≤ m
+part-short {n} xs h = omega (arith, length-take n xs)
+
+-- The line of a phrase is that of the word and the fields which it says.
+pub said-line : {p : Phrase} {fields : List (List ℕ)} {r : ℕ} {last : List ℕ} (place : ℕ) (w : Written) → Says p fields
+    → writtenOf r last ≡ append (line (decimal place ∷ take (p .1) (p .0) ∷ map decimal (take (p .3) (p .2)))) w
+    → writtenOf r last ≡ append (line (decimal place ∷ fields)) w
+said-line place w s e = e ∙ ap (λ (fields : List (List ℕ)). append (line (decimal place ∷ fields)) w) (s .is)
 
 -- An answer without fields is its word's number alone.
 pub bare : (a : Answer) (n : ℕ) → tagOf the-type a ≡ n → (n ≡ 3) ⊎ (n ≡ 5) → answerOf a ≡ n ∷ []
@@ -52,13 +63,19 @@ bare (Refused m) n e (inr h) = absurd (omega arith)
 
 -- ---- the domains' lines
 
-pub part-none : (W d : ℕ) (x : Domain) (w : Written) → asRead W (record { hit = x .hit; fill = x .fill }) .hit ≡ 0 → w ≡ append (domainPart W d x) w
-unfolding domainPart
-part-none W d x w e = rw (eq-eqb (asRead W (record { hit = x .hit; fill = x .fill }) .hit) 0 e) (sym (append-none w))
+-- With the maps as they are read: no line for an empty hit map, and else the domain's.
+module _ (W d : ℕ) (x : Domain) (w : Written) {read : Maps} (is : read ≡ asRead W (record { hit = x .hit; fill = x .fill })) where
+  pub part-none : read .hit ≡ 0 → w ≡ append (domainPart W d x) w
+  unfolding domainPart
+  part-none e =
+      rw (eq-eqb (asRead W (record { hit = x .hit; fill = x .fill }) .hit) 0 (ap (λ (m : Maps). m .hit) (sym is) ∙ e))
+      (sym (append-none w))
 
-pub part-some : (W d : ℕ) (x : Domain) → (asRead W (record { hit = x .hit; fill = x .fill }) .hit ≡ 0 → ⊥) → domainLine d (x .counts) ≡ domainPart W d x
-unfolding domainPart
-part-some W d x e = rw (ne-eqb (asRead W (record { hit = x .hit; fill = x .fill }) .hit) 0 e)
+  pub part-some : {r : ℕ} {last : List ℕ} → (read .hit ≡ 0 → ⊥) → writtenOf r last ≡ append (domainLine d (x .counts)) w
+      → writtenOf r last ≡ append (domainPart W d x) w
+  unfolding domainPart
+  part-some e f =
+      rw (ne-eqb (asRead W (record { hit = x .hit; fill = x .fill }) .hit) 0 (λ z. e (ap (λ (m : Maps). m .hit) is ∙ z))) f
 
 -- After d domains: the domains to come make the whole.
 pub record Naming (W : ℕ) (domains : Domains) (out₀ : List ℕ) (at : ℕ) (out : List ℕ) (next d : ℕ) : Type 0 where
@@ -70,6 +87,14 @@ pub record Naming (W : ℕ) (domains : Domains) (out₀ : List ℕ) (at : ℕ) (
 
 pub name-begin : (W : ℕ) (domains : Domains) (out : List ℕ) (at : ℕ) → at + 2128 ≤ length out → Naming W domains out at out at 0
 name-begin W domains out at h = record { inside = omega arith; fits = h; behind = omega arith; long = refl; is = refl }
+
+-- Room for the next domain's line.
+pub name-room : {W : ℕ} {domains : Domains} {out₀ out : List ℕ} {at next d : ℕ} → Naming W domains out₀ at out next d → d < 16
+    → next + 133 ≤ length out
+name-room p h = omega arith
+
+pub name-short : {W : ℕ} {domains : Domains} {out₀ out : List ℕ} {at next d : ℕ} → Naming W domains out₀ at out next d → next ≤ at + 2128
+name-short p = omega arith
 
 pub name-turned : {W : ℕ} {domains : Domains} {out₀ out new : List ℕ} {at next after d : ℕ} → Naming W domains out₀ at out next d → d < 16
     → writtenOf after new ≡ append (domainPart W d (domainOf domains d)) (writtenOf next out) → after ≤ next + 133

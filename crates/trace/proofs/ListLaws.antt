@@ -17,7 +17,8 @@ use Rattle.verdict.proofs.GeometryLaws.{limited, rows-bound}
 use Rattle.cache.specs.Tables.{Tables, lengths}
 use Rattle.cache.specs.Step.{State, tablesOf}
 use Rattle.cache.specs.Run.{finally}
-use Rattle.cache.specs.Fresh.{fresh}
+use Rattle.fresh.specs.Fresh.{fresh}
+use Rattle.tracefile.proofs.FileLaws.{Accepted, accepted}
 use Rattle.tracefile.specs.File.{geometryOf, stepCount, stepsOf, fileRefusal}
 use Rattle.trace.specs.Listing.{refusedLine, runLines, listing}
 use Rattle.trace.specs.Calls.{Listed, listedOf, onto, ontoTables, lastTables, listOf}
@@ -26,40 +27,81 @@ use Rattle.trace.proofs.TextLaws.{piece-end}
 
 -- ---- the front of the lent tables
 
--- Room in the tables for the geometry.
-pub record Room (g : Geometry) (t : Tables) : Type 0 where
+-- Room in the tables for the geometry of a file that is not refused, and in the output for its listing.
+pub record Fitting (g : Geometry) (n : ℕ) (t : Tables) (out : List ℕ) : Type 0 where
+  pub stands : within g ≡ true
+  pub few-steps : n ≤ 4096
   pub cells : g .sets * g .ways ≤ 4096
   pub tags-room : g .sets * g .ways ≤ length (t .tags)
   pub valid-room : g .sets ≤ length (t .valid)
   pub dirty-room : g .sets ≤ length (t .dirty)
   pub words-room : g .sets ≤ length (t .words)
+  pub out-room : 393216 ≤ length out
 
-pub room : (g : Geometry) (t : Tables) (out : List ℕ) → within g ≡ true → Roomy t out → Room g t
-room g t out w r =
+pub fitting : (file : List ℕ) {g : Geometry} {n : ℕ} {t : Tables} {out : List ℕ} → g ≡ geometryOf file → n ≡ stepCount file
+    → fileRefusal file ≡ 0 → Roomy t out → Fitting g n t out
+fitting file {g} {n} {t} {out} named counted z r =
+    let a : Accepted file = accepted file z in
+    let w : within g ≡ true = ap within named ∙ a .limits in
     let l : Limited g = limited g w in
     let few : g .sets * g .ways ≤ 4096 = rows-bound g l in
     record {
+      stands = w;
+      few-steps = omega (arith, counted, a .short);
       cells = few;
       tags-room = omega (arith, r .tags-long);
       valid-room = omega (arith, r .valid-long, l .most-sets);
       dirty-room = omega (arith, r .dirty-long, l .most-sets);
       words-room = omega (arith, r .words-long, l .most-sets);
+      out-room = r .out-long;
     }
 
 -- The part up to k, as it is lent.
-part-long : (k : ℕ) (xs : List ℕ) → k ≤ length xs → length (take (k - 0) xs) ≡ k
+abbrev lent : ℕ → List ℕ → List ℕ
+lent k xs = take (k - 0) xs
+
+-- A list with that part put back.
+abbrev returned : ℕ → List ℕ → List ℕ → List ℕ
+returned k part xs = part ++ postOf 0 (k - 0) xs
+
+part-long : (k : ℕ) (xs : List ℕ) → k ≤ length xs → length (lent k xs) ≡ k
 part-long k xs h = length-take-le (k - 0) xs (omega arith) ∙ omega arith
 
-pub parts-sized : (g : Geometry) (t : Tables) → Room g t
-    → sized g (lengths (tablesOf (take (g .sets * g .ways - 0) (t .tags)) (take (g .sets - 0) (t .valid)) (take (g .sets - 0) (t .dirty)) (take (g .sets - 0) (t .words)))) ≡ true
-unfolding sized
-parts-sized g t r =
-    rw (part-long (g .sets * g .ways) (t .tags) (r .tags-room), part-long (g .sets) (t .valid) (r .valid-room), part-long (g .sets) (t .dirty) (r .dirty-room), part-long (g .sets) (t .words) (r .words-room), eq-eqb (g .sets * g .ways) (g .sets * g .ways) refl, eq-eqb (g .sets) (g .sets) refl)
-
--- The part is put back at the front.
-pub front : (k : ℕ) (xs part : List ℕ) → k ≤ length xs → length part ≡ length (take (k - 0) xs) → part ++ postOf 0 (k - 0) xs ≡ onto part xs
+-- It lies at the front.
+front : (k : ℕ) (xs part : List ℕ) → k ≤ length xs → length part ≡ length (lent k xs) → returned k part xs ≡ onto part xs
 front k xs part h l =
     ap (λ (r : List ℕ). part ++ r) (post-is 0 k xs (omega arith) ∙ ap (λ (n : ℕ). drop n xs) (sym (l ∙ part-long k xs h)))
+
+-- The parts of the tables that a geometry needs, and the tables with these put back.
+abbrev pub lentTables : Geometry → Tables → Tables
+lentTables g t =
+    tablesOf (lent (g .sets * g .ways) (t .tags)) (lent (g .sets) (t .valid)) (lent (g .sets) (t .dirty)) (lent (g .sets) (t .words))
+
+abbrev pub returnedTables : Geometry → Tables → Tables → Tables
+returnedTables g new t = record {
+  tags = returned (g .sets * g .ways) (new .tags) (t .tags);
+  valid = returned (g .sets) (new .valid) (t .valid);
+  dirty = returned (g .sets) (new .dirty) (t .dirty);
+  words = returned (g .sets) (new .words) (t .words);
+}
+
+pub lent-sized : {g : Geometry} {n : ℕ} {t : Tables} {out : List ℕ} → Fitting g n t out → sized g (lengths (lentTables g t)) ≡ true
+unfolding sized
+lent-sized {g} {n} {t} r =
+    let tags : length (lent (g .sets * g .ways) (t .tags)) ≡ g .sets * g .ways = part-long (g .sets * g .ways) (t .tags) (r .tags-room) in
+    let valid : length (lent (g .sets) (t .valid)) ≡ g .sets = part-long (g .sets) (t .valid) (r .valid-room) in
+    let dirty : length (lent (g .sets) (t .dirty)) ≡ g .sets = part-long (g .sets) (t .dirty) (r .dirty-room) in
+    let words : length (lent (g .sets) (t .words)) ≡ g .sets = part-long (g .sets) (t .words) (r .words-room) in
+    rw (tags, valid, dirty, words, eq-eqb (g .sets * g .ways) (g .sets * g .ways) refl, eq-eqb (g .sets) (g .sets) refl)
+
+fronts : {g : Geometry} {n : ℕ} {t : Tables} {out : List ℕ} (new : Tables) → Fitting g n t out → lengths new ≡ lengths (lentTables g t)
+    → returnedTables g new t ≡ ontoTables new t
+fronts {g} {n} {t} new r same = λ j. record {
+  tags = front (g .sets * g .ways) (t .tags) (new .tags) (r .tags-room) (ap (λ (m : Lengths). m .tags) same) j;
+  valid = front (g .sets) (t .valid) (new .valid) (r .valid-room) (ap (λ (m : Lengths). m .valid) same) j;
+  dirty = front (g .sets) (t .dirty) (new .dirty) (r .dirty-room) (ap (λ (m : Lengths). m .dirty) same) j;
+  words = front (g .sets) (t .words) (new .words) (r .words-room) (ap (λ (m : Lengths). m .words) same) j;
+}
 
 -- ---- the call
 
@@ -80,10 +122,11 @@ refused-is file out last t {n} {r} e z h w b =
     rw other
     (ap₂ (λ (k : ℕ) (xs : List ℕ). listedOf k xs t) all (ap (λ (v : Written). v .out) is ∙ front-piece line out (omega (arith, all))))
 
-pub listed-is : (file out last : List ℕ) (t new : Tables) (r : ℕ) → fileRefusal file ≡ 0 → r ≤ 393216 → 393216 ≤ length out
-    → listedBy new (writtenOf r last) ≡ listingBy (geometryOf file) file (stepCount file) out → listedOf r last (ontoTables new t) ≡ listOf file out t
+listed-front : (file out last : List ℕ) (t new : Tables) (r : ℕ) → fileRefusal file ≡ 0 → r ≤ 393216 → 393216 ≤ length out
+    → listedBy new (writtenOf r last) ≡ listingBy (geometryOf file) file (stepCount file) out
+    → listedOf r last (ontoTables new t) ≡ listOf file out t
 unfolding listOf lastTables listing listingBy append
-listed-is file out last t new r z b h e =
+listed-front file out last t new r z b h e =
     let none : eqb (fileRefusal file) 0 ≡ true = eq-eqb (fileRefusal file) 0 z in
     let lines : List ℕ = runLines (geometryOf file) (stepsOf file) (stepCount file) in
     let is : writtenOf r last ≡ append lines (writtenOf 0 out) = ap (λ (l : ListedBy). l .text) e in
@@ -94,6 +137,16 @@ listed-is file out last t new r z b h e =
       output = (ap (λ (v : Written). v .out) is ∙ front-piece lines out (omega (arith, all))) j;
       tables = ontoTables (e j .tables) t;
     })
+
+-- The listing of the geometry and the steps that the file names, with the lent parts put back.
+pub listed-is : (file : List ℕ) {out last : List ℕ} {t : Tables} {g : Geometry} {n r : ℕ} (new : Tables) → g ≡ geometryOf file → n ≡ stepCount file
+    → fileRefusal file ≡ 0 → Roomy t out → lengths new ≡ lengths (lentTables g t)
+    → listedBy new (writtenOf r last) ≡ listingBy g file n out → r ≤ 393216
+    → listedOf r last (returnedTables g new t) ≡ listOf file out t
+listed-is file {out} {last} {t} {g} {n} {r} new named counted z room same e b =
+    ap (listedOf r last) (fronts new (fitting file named counted z room) same)
+    ∙ listed-front file out last t new r z b (room .out-long)
+    (e ∙ ap₂ (λ (h : Geometry) (k : ℕ). listingBy h file k out) named counted)
 
 -- What is written lies within the output.
 pub listed-counts : (file out : List ℕ) (t : Tables) {r : ℕ} {last : List ℕ} {new : Tables} → listedOf r last new ≡ listOf file out t → Counts r last

@@ -13,7 +13,7 @@ use Rattle.command.specs.Command.{Command}
 use Rattle.cache.specs.Run.{stepOn, answersOf, finally}
 use Rattle.cache.specs.Step.{State, Outcome}
 use Rattle.cache.specs.Tables.{Tables, lengths}
-use Rattle.cache.specs.Fresh.{freshTables, freshDomains, fresh, Made, madeOf, freshOf}
+use Rattle.fresh.specs.Fresh.{freshTables, freshDomains, fresh, Made, madeOf, freshOf}
 use Rattle.tracefile.specs.File.{commandAt, lastSteps}
 use Rattle.trace.specs.Listing.{decimal, line, told, answerLines, headLine, domainLines, runLines}
 use Rattle.trace.specs.Inside.{Written, writtenOf, append, RunTo, runTo, listedBy, listingBy}
@@ -49,6 +49,11 @@ run-begin g file n s out at h = record {
   is = ap (λ (k : ℕ). runTo g file n 0 k s (writtenOf at out)) (omega arith);
 }
 
+-- Room for the line of the next step.
+pub run-room : {g : Geometry} {file : List ℕ} {n : ℕ} {s₀ s : State} {out₀ out : List ℕ} {at next i : ℕ}
+    → Running g file n s₀ out₀ at s out next i → i < n → next + 92 ≤ length out
+run-room p h = omega arith
+
 pub run-turned : {g : Geometry} {file : List ℕ} {n : ℕ} {s₀ s : State} {out₀ out new : List ℕ} {at next after i : ℕ} (c : Command) (o : Outcome)
     → Running g file n s₀ out₀ at s out next i → i < n → c ≡ commandAt file n i → o ≡ stepOn g c s → lengths (o .state .tables) ≡ lengths (s .tables)
     → writtenOf after new ≡ append (line (decimal i ∷ told (o .answer))) (writtenOf next out) → after ≤ next + 92
@@ -68,21 +73,37 @@ run-turned {g} {file} {n} {s₀} {s} {out₀} {out} {new} {at} {next} {after} {i
           ∙ p .is;
     }
 
+pub run-short : {g : Geometry} {file : List ℕ} {n : ℕ} {s₀ s : State} {out₀ out : List ℕ} {at next i : ℕ}
+    → Running g file n s₀ out₀ at s out next i → next ≤ at + 92 * n
+run-short p = omega arith
+
 pub run-end : {g : Geometry} {file : List ℕ} {n : ℕ} {s₀ s : State} {out₀ out : List ℕ} {at next i : ℕ} → Running g file n s₀ out₀ at s out next i → n ≤ i
     → record { state = s; text = writtenOf next out } ≡ runTo g file n 0 n s₀ (writtenOf at out₀)
 unfolding runTo lastSteps finally answersOf answerLines
 run-end {g} {file} {n} {s₀} {s} {out₀} {out} {at} {next} {i} p h =
     let none : n - i ≡ 0 = omega arith in
-    sym (ap (λ (k : ℕ). runTo g file n i k s (writtenOf next out)) none ∙ ap (λ (x : Written). record { state = s; text = x }) (append-none (writtenOf next out)))
+    let w : Written = writtenOf next out in
+    sym (ap (λ (k : ℕ). runTo g file n i k s w) none ∙ ap (λ (x : Written). record { state = s; text = x }) (append-none w))
     ∙ p .is
 
 -- ---- the whole listing
+
+-- An output of 393,216 bytes has room for the first line, the lines of 4,096 steps and those of the domains.
+pub room-for-steps : {head n now long : ℕ} → head ≤ 84 → now ≡ long → n ≤ 4096 → 393216 ≤ long → head + 92 * n ≤ now
+room-for-steps h e s l = omega arith
+
+pub room-for-domains : {at head n now long : ℕ} → at ≤ head + 92 * n → head ≤ 84 → now ≡ long → n ≤ 4096 → 393216 ≤ long → at + 2128 ≤ now
+room-for-domains a h e s l = omega arith
+
+pub listing-short : {r at head n : ℕ} → r ≤ at + 2128 → at ≤ head + 92 * n → head ≤ 84 → n ≤ 4096 → r ≤ 393216
+listing-short r a h s = omega arith
 
 fresh-is : (g : Geometry) (t new : Tables) (n : ℕ) → within g ≡ true → sized g (lengths t) ≡ true → madeOf n new ≡ freshOf g t → new ≡ freshTables g
 unfolding freshOf
 fresh-is g t new n w z e = ap (λ (m : Made). m .tables) (rw (w, z) at e)
 
-pub listing-is : (g : Geometry) (file : List ℕ) (n : ℕ) (out₀ : List ℕ) (t₀ t : Tables) (domains : Domains) (w : Written) (r : RunTo) {made at : ℕ} {out : List ℕ}
+pub listing-is : (g : Geometry) (file : List ℕ) (n : ℕ) (out₀ : List ℕ) (t₀ t : Tables) (domains : Domains) (w : Written) (r : RunTo)
+    {made at : ℕ} {out : List ℕ}
     → within g ≡ true → sized g (lengths t₀) ≡ true → madeOf made t ≡ freshOf g t₀ → domains ≡ freshDomains
     → w ≡ append (headLine g n) (writtenOf 0 out₀) → r ≡ runTo g file n 0 n (record { tables = t; domains = domains }) w
     → writtenOf at out ≡ append (domainLines (g .ways) (r .state .domains) 0 maxDomains) (r .text)

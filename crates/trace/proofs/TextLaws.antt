@@ -3,9 +3,11 @@ use mathlib.Core.Path.{_≡_, refl, sym, ap, ap₂, _∙_}
 use mathlib.Core.Bool.{Bool, true, false, cond}
 use mathlib.Core.List.{List, [], _∷_, _++_, map, append-assoc, append-nil}
 use Prim.Native.Nat.{ℕ, zero, suc, _+_, _-_, _*_, _/_, _%_, _^_, _≤_, _<_}
-use native.Mathlib.Nat.{add-zero, add-assoc, pow-suc, pow-le-pow-right, not-suc-le-zero, le-of-suc-le-suc, one-le-pow}
+use native.Mathlib.Nat.{add-zero, add-assoc, pow-suc, pow-le-pow-right, not-suc-le-zero, le-of-suc-le-suc, one-le-pow, mod-eq-of-lt}
 use native.Mathlib.Numerals.{add-one}
 use native.Mathlib.Omega.{arith}
+use mir.Syntax.{w64}
+use mir.Val.{Fits}
 use lib.Dec.{ltb}
 use lib.ListN.{length, take, drop, set, getD, length-append, length-drop, length-map, drop-of-length-le, length-set}
 use lib.Seq.{sets, length-sets}
@@ -96,16 +98,17 @@ digits-decimal (suc k) (suc (suc r)) n h f =
     let fewest : suc r - 1 ≡ r = omega arith in
     rw (le-ltb n 10 (omega (arith, many, some, pow-suc 10 r)), lt-ltb (n % 10) 10 (omega arith))
     (ap (λ (xs : List ℕ). xs ++ (48 + n % 10) ∷ [])
-    (digits-decimal k (suc r) (n / 10) (le-of-suc-le-suc h) (omega arith, omega (arith, f .1, pow-suc 10 (suc r)), λ more. rw fewest (omega (arith, many, pow-suc 10 r)))))
+    (digits-decimal k (suc r) (n / 10) (le-of-suc-le-suc h)
+    (omega arith, omega (arith, f .1, pow-suc 10 (suc r)), λ more. rw fewest (omega (arith, many, pow-suc 10 r)))))
 
 -- Twenty digits are enough for 64 bits.
-pub few-digits : (n r : ℕ) → n < 18446744073709551616 → Fewest 10 1 n r → r ≤ 20
+pub few-digits : (n r : ℕ) → Fits w64 n → Fewest 10 1 n r → r ≤ 20
 few-digits n r b f = cases (ltb 20 r)
     (λ y.
     let more : 20 < r = ltb-true 20 r y in
     let long : 20 ≤ r - 1 = omega arith in
     let most : 10 ^ 20 ≤ 10 ^ (r - 1) = pow-le-pow-right {n = 10} (omega arith) long in
-    omega (arith, f .2 (omega arith)))
+    omega (arith, b .fits, f .2 (omega arith)))
     (λ y. ltb-false 20 r y)
 
 pub decimal-is : (n r : ℕ) → r ≤ 20 → Fewest 10 1 n r → digits 10 r n ≡ decimal n
@@ -123,10 +126,33 @@ pub put-byte : (xs : List ℕ) (w : Written) {out : List ℕ} {next : ℕ} (x : 
     → writtenOf (next + 1) (set out next x) ≡ append (xs ++ x ∷ []) w
 put-byte xs w {out} {next} x e = sym (append-byte x next out) ∙ ap (append (x ∷ [])) e ∙ append-append xs (x ∷ []) w
 
--- Where the digits end; and the output is as long as before.
-pub digits-end : (w : Written) (n r next : ℕ) (bytes out : List ℕ) → n < 18446744073709551616 → Fewest 10 1 n r → r ≡ length bytes
-    → writtenOf next out ≡ append bytes w → (next ≤ w .at + 20) × (length out ≡ length (w .out))
-digits-end w n r next bytes out b f l e = (omega (arith, few-digits n r b f, piece-end bytes w e), piece-long bytes w e)
+-- A number below 10 is one digit.
+digit-is : (n : ℕ) → n < 10 → decimal n ≡ (48 + n) ∷ []
+unfolding decimalBy
+digit-is n h = rw (lt-ltb n 10 h, mod-eq-of-lt h)
+
+pub digit-put : (at n end : ℕ) (out : List ℕ) → n < 10
+    → writtenOf (at + 2) (set (set out at (48 + n)) (at + 1) end) ≡ append (decimal n ++ end ∷ []) (writtenOf at out)
+digit-put at n end out h =
+    let w : Written = writtenOf at out in
+    let next : at + 2 ≡ at + 1 + 1 = omega arith in
+    ap (λ (k : ℕ). writtenOf k (set (set out at (48 + n)) (at + 1) end)) next
+    ∙ put-byte ((48 + n) ∷ []) w end (sym (append-byte (48 + n) at out))
+    ∙ ap (λ (ds : List ℕ). append (ds ++ end ∷ []) w) (sym (digit-is n h))
+
+pub second-inside : (at v : ℕ) (out : List ℕ) → at + 21 ≤ length out → at + 1 < length (set out at v)
+second-inside at v out h = rw (length-set out at v) (omega arith)
+
+-- At most twenty digits, put from `at` on, and a byte behind them.
+module _ (at : ℕ) {digits bytes long : ℕ} (few : digits ≤ 20) (all : digits ≡ bytes) (room : at + 21 ≤ long) where
+  pub digits-fit : at + bytes ≤ long
+  digits-fit = omega arith
+
+  pub end-inside : {next now : ℕ} → next ≡ at + bytes → now ≡ long → next < now
+  end-inside e l = omega arith
+
+  pub number-short : {next : ℕ} → next ≡ at + bytes → next + 1 ≤ at + 21
+  number-short e = omega arith
 
 pub number-is : (w : Written) {bytes out : List ℕ} {n r next : ℕ} (end : ℕ) → r ≤ 20 → Fewest 10 1 n r → bytes ≡ digits 10 r n
     → writtenOf next out ≡ append bytes w → writtenOf (next + 1) (set out next end) ≡ append (decimal n ++ end ∷ []) w
@@ -146,6 +172,13 @@ pub record Lining (values out₀ : List ℕ) (at : ℕ) (out : List ℕ) (next i
 pub line-begin : (values out : List ℕ) (at : ℕ) → at + 21 * length values ≤ length out → Lining values out at out at 0
 line-begin values out at h = record { inside = omega arith; fits = h; behind = omega arith; long = refl; is = refl }
 
+-- Room for the next number.
+pub line-room : {values out₀ out : List ℕ} {at next i : ℕ} → Lining values out₀ at out next i → i < length values → next + 21 ≤ length out
+line-room p h = omega arith
+
+pub line-short : {values out₀ out : List ℕ} {at next i : ℕ} → Lining values out₀ at out next i → next ≤ at + 21 * length values
+line-short p = omega arith
+
 -- What stands after number i, by the numbers to come.
 end-after : (values : List ℕ) (i : ℕ) → i < length values → endOf 0 (suc (length (map decimal (drop (i + 1) values)))) ≡ endOf i (length values)
 unfolding endOf
@@ -156,24 +189,24 @@ end-after values i h =
     (λ y. rw (y, lt-ltb 1 (suc (length values - (i + 1))) (omega (arith, ltb-true (i + 1) (length values) y))))
     (λ y. rw (y, le-ltb 1 (suc (length values - (i + 1))) (omega (arith, ltb-false (i + 1) (length values) y)))))
 
-pub line-turned : {values out₀ out new : List ℕ} {at next after i : ℕ} (z : ℕ) → Lining values out₀ at out next i → i < length values
-    → writtenOf after new ≡ append (decimal (getD values i z) ++ endOf i (length values) ∷ []) (writtenOf next out) → after ≤ next + 21
-    → length new ≡ length out
-    → Lining values out₀ at new after (i + 1)
-line-turned {values} {out₀} {out} {new} {at} {next} {after} {i} z p h e b l =
+pub line-turned : {values out₀ out new : List ℕ} {at next after i end : ℕ} (z : ℕ) → Lining values out₀ at out next i → i < length values
+    → end ≡ endOf i (length values) → writtenOf after new ≡ append (decimal (getD values i z) ++ end ∷ []) (writtenOf next out)
+    → after ≤ next + 21 → length new ≡ length out → Lining values out₀ at new after (i + 1)
+line-turned {values} {out₀} {out} {new} {at} {next} {after} {i} z p h ends e b l =
     let v : ℕ = getD values i z in
     let rest : List (List ℕ) = map decimal (drop (i + 1) values) in
+    let w : Written = writtenOf next out in
     record {
       inside = omega arith;
       fits = p .fits;
       behind = omega (arith, p .behind);
       long = l ∙ p .long;
       is =
-          ap (append (line rest)) e
-          ∙ append-append (decimal v ++ endOf i (length values) ∷ []) (line rest) (writtenOf next out)
-          ∙ ap (λ (x : ℕ). append ((decimal v ++ x ∷ []) ++ line rest) (writtenOf next out)) (sym (end-after values i h))
-          ∙ ap (λ (xs : List ℕ). append xs (writtenOf next out)) (sym (line-cons (decimal v) rest))
-          ∙ ap (λ (xs : List ℕ). append (line (map decimal xs)) (writtenOf next out)) (sym (drop-next i values z h))
+          ap (append (line rest)) (e ∙ ap (λ (x : ℕ). append (decimal v ++ x ∷ []) w) ends)
+          ∙ append-append (decimal v ++ endOf i (length values) ∷ []) (line rest) w
+          ∙ ap (λ (x : ℕ). append ((decimal v ++ x ∷ []) ++ line rest) w) (sym (end-after values i h))
+          ∙ ap (λ (xs : List ℕ). append xs w) (sym (line-cons (decimal v) rest))
+          ∙ ap (λ (xs : List ℕ). append (line (map decimal xs)) w) (sym (drop-next i values z h))
           ∙ p .is;
     }
 
@@ -186,14 +219,26 @@ line-end {values} {out₀} {out} {at} {next} {i} p h =
 
 -- ---- a line of a word and numbers
 
-pub told-is : (word values : List ℕ) (w : Written) {out last : List ℕ} {next r : ℕ} → writtenOf next out ≡ append word w
-    → writtenOf r last ≡ append (line (map decimal values)) (writtenOf (next + 1) (set out next (endOf 0 (length values + 1))))
+pub told-is : (word values : List ℕ) (w : Written) {out last : List ℕ} {next r end : ℕ} → writtenOf next out ≡ append word w
+    → end ≡ endOf 0 (length values + 1) → writtenOf r last ≡ append (line (map decimal values)) (writtenOf (next + 1) (set out next end))
     → writtenOf r last ≡ append (line (word ∷ map decimal values)) w
-told-is word values w {out} {last} {next} {r} e f =
+told-is word values w {out} {last} {next} {r} {end} e ends f =
     let rest : List (List ℕ) = map decimal values in
     let n : length values + 1 ≡ suc (length rest) = add-one (length values) ∙ ap suc (sym (length-map values decimal)) in
     f
-    ∙ ap (append (line rest)) (put-byte word w (endOf 0 (length values + 1)) e)
-    ∙ append-append (word ++ endOf 0 (length values + 1) ∷ []) (line rest) w
-    ∙ ap (λ (m : ℕ). append ((word ++ endOf 0 m ∷ []) ++ line rest) w) n
+    ∙ ap (append (line rest)) (put-byte word w end e)
+    ∙ append-append (word ++ end ∷ []) (line rest) w
+    ∙ ap (λ (x : ℕ). append ((word ++ x ∷ []) ++ line rest) w) (ends ∙ ap (endOf 0) n)
     ∙ ap (λ (xs : List ℕ). append xs w) (sym (line-cons word rest))
+
+-- A word, the byte behind it, and the numbers' room.
+module _ (at word count : ℕ) {next now long : ℕ} (put : next ≡ at + word) (same : now ≡ long)
+    (room : at + (word + (1 + 21 * count)) ≤ long) where
+  pub word-inside : next < now
+  word-inside = omega arith
+
+  pub numbers-room : {then : ℕ} → then ≡ now → next + 1 + 21 * count ≤ then
+  numbers-room e = omega arith
+
+  pub told-short : {r : ℕ} → r ≤ next + 1 + 21 * count → r ≤ at + (word + (1 + 21 * count))
+  told-short h = omega arith

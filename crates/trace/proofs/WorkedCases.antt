@@ -19,7 +19,7 @@ use Rattle.cache.specs.Domains.{putDomain, counted}
 use Rattle.cache.specs.Step.{State, onSet, rowEffect, useLine, newDomain, changePolicy, stepBy, decided, step}
 use Rattle.command.specs.Command.{Command, commandOf}
 use Rattle.cache.specs.Run.{answersOf, finally}
-use Rattle.cache.specs.Fresh.{freshTables, freshDomains, fresh}
+use Rattle.fresh.specs.Fresh.{freshTables, freshDomains, fresh}
 use Rattle.tracefile.specs.File.{value, field, lastSteps, badFile, fileRefusal}
 use Rattle.trace.specs.Listing.{decimalBy, line, told, answerLines, domainLine, domainPart, domainLines, runLines, listing}
 
@@ -44,7 +44,13 @@ listingA =
     ∷ 10 ∷ []
 
 pub case-a-listing : listing fileA ≡ listingA
-unfolding answersOf finally step decided stepBy changePolicy newDomain useLine rowEffect onSet refusal refusalBy policyRefusal useRefusal sharesNode sharesWay badArgument newMaps kindOf counted isFull policies putDomain domainOf total eachSet putRow rowAt sized tagOf setOf within isPower freshTables freshDomains fresh isWays inLimits Row.asRead Row.matches Row.isHit Row.hitWay Row.hitAt Row.filled Row.vacant Row.fillAt Row.evictAt Row.accessBy Row.access Row.flushAt Row.flush Row.moved Row.without Row.wiped Row.dropped Row.droppedDirty Row.cleaned bit word any lowest count put reaches xor Tree.passes Tree.under Tree.holds Tree.free Tree.forcedRight Tree.walk Tree.walked Tree.victim Tree.touch Tree.changes Tree.reset Tree.shares commandOf value field lastSteps badFile fileRefusal decimalBy line told answerLines domainLine domainPart domainLines runLines listing
+unfolding answersOf finally step decided stepBy changePolicy newDomain useLine rowEffect onSet refusal refusalBy policyRefusal
+    useRefusal sharesNode sharesWay badArgument newMaps kindOf counted isFull policies putDomain domainOf total eachSet putRow
+    rowAt sized tagOf setOf within isPower freshTables freshDomains fresh isWays inLimits Row.asRead Row.matches Row.isHit
+    Row.hitWay Row.hitAt Row.filled Row.vacant Row.fillAt Row.evictAt Row.accessBy Row.access Row.flushAt Row.flush Row.moved
+    Row.without Row.wiped Row.dropped Row.droppedDirty Row.cleaned bit word any lowest count put reaches xor Tree.passes
+    Tree.under Tree.holds Tree.free Tree.forcedRight Tree.walk Tree.walked Tree.victim Tree.touch Tree.changes Tree.reset Tree.shares commandOf
+    value field lastSteps badFile fileRefusal decimalBy line told answerLines domainLine domainPart domainLines runLines listing
 case-a-listing = refl
 
 -- "A file refused by 10 or by 1 gives the one line `refused` and the number": a file of no bytes, and one of 3 sets.

@@ -1,18 +1,21 @@
 -- What the crate's inner functions go by.
 use mathlib.Core.Bool.{cond}
-use mathlib.Core.List.{List}
+use mathlib.Core.Path.{_≡_}
+use mathlib.Core.List.{List, _∷_, map}
 use Prim.Native.Nat.{ℕ, _+_, _≤_}
 use lib.Dec.{ltb}
-use lib.ListN.{length}
+use lib.ListN.{length, take}
 use lib.Seq.{sets}
 use Rattle.verdict.specs.declared.Geometry.{Geometry}
+use Rattle.verdict.specs.declared.Domains.{Domains}
 use Rattle.cache.specs.Run.{answersOf, finally}
-use Rattle.cache.specs.Fresh.{fresh}
+use Rattle.fresh.specs.Fresh.{fresh}
 use Rattle.cache.specs.Tables.{Tables}
 use Rattle.cache.specs.Step.{State}
 use Rattle.tracefile.specs.File.{lastSteps}
-use Rattle.trace.specs.Listing.{answerLines, runLines}
+use Rattle.trace.specs.Listing.{decimal, answerLines, runLines}
 use Rattle.trace.specs.declared.Ran.{Ran}
+use Rattle.trace.specs.declared.lines.Phrase.{Phrase}
 
 -- An output, and the place in it where the next bytes go.
 pub record Written : Type 0 where
@@ -25,6 +28,14 @@ writtenOf at out = record { at = at; out = out }
 -- The output with bytes put there.
 unfoldable pub append : List ℕ → Written → Written
 append bytes w = record { at = w .at + length bytes; out = sets (w .out) (w .at) bytes }
+
+-- A phrase is a word and fields.
+pub record Says (p : Phrase) (fields : List (List ℕ)) : Type 0 where
+  pub is : take (p .1) (p .0) ∷ map decimal (take (p .3) (p .2)) ≡ fields
+  pub inside : p .1 ≤ length (p .0)
+  pub short : p .1 ≤ 7
+  pub listed : p .3 ≤ length (p .2)
+  pub few : p .3 ≤ 3
 
 -- What stands after field i of n: a space, or the line's end.
 unfoldable pub endOf : ℕ → ℕ → ℕ
@@ -41,8 +52,11 @@ runTo g file n i k s w = record {
   text = append (answerLines i (answersOf g (lastSteps file n i k) s)) w;
 }
 
+abbrev pub stateOf : Tables → Domains → State
+stateOf t domains = record { tables = t; domains = domains }
+
 abbrev pub ranOf : Ran → Tables → List ℕ → RunTo
-ranOf r t out = record { state = record { tables = t; domains = r .domains }; text = writtenOf (r .at) out }
+ranOf r t out = record { state = stateOf t (r .domains); text = writtenOf (r .at) out }
 
 -- What the listing of a file of n steps leaves on tables of their lengths: the tables, and the lines in the output.
 pub record ListedBy : Type 0 where

@@ -2,6 +2,8 @@
 mod lines;
 mod text;
 
+use cache::Stepped;
+use row::Answer;
 use verdict::Domains;
 use verdict::Geometry;
 ghost use mathlib.Core.Path.{_≡_};
@@ -14,7 +16,7 @@ ghost use Rattle.cache.specs.Step.{tablesOf};
 ghost use Rattle.cache.specs.Tables.{lengths};
 ghost use Rattle.tracefile.specs.File.{fileRefusal};
 ghost use Rattle.trace.specs.Calls.{listedOf, listOf};
-ghost use Rattle.trace.specs.Inside.{writtenOf, ranOf, runTo, listedBy, listingBy, Roomy};
+ghost use Rattle.trace.specs.Inside.{writtenOf, stateOf, ranOf, runTo, listedBy, listingBy, Roomy};
 
 // What a run leaves beside the tables: the place after its lines, and the domains.
 pub struct Ran {
@@ -36,33 +38,40 @@ fn run(
     at: usize,
 ) -> Ran
     requires { ⌜ at + 92 * steps ≤ length (now out) ⌝ }
-    ensures { λ r. ⌜ ranOf r (tablesOf (now (tags .exit)) (now (valid .exit)) (now (dirty .exit)) (now (words .exit))) (now (out .exit)) ≡ runTo g (now (file .entry)) steps 0 steps (record { tables = tablesOf (now (tags .entry)) (now (valid .entry)) (now (dirty .entry)) (now (words .entry)); domains = domains }) (writtenOf at (now (out .entry))) ⌝ }
+    ensures { λ r. ⌜
+        ranOf r (tablesOf (now (tags .exit)) (now (valid .exit)) (now (dirty .exit)) (now (words .exit))) (now (out .exit))
+        ≡ runTo g (now (file .entry)) steps 0 steps
+        (stateOf (tablesOf (now (tags .entry)) (now (valid .entry)) (now (dirty .entry)) (now (words .entry))) domains)
+        (writtenOf at (now (out .entry))) ⌝ }
     ensures { λ r. ⌜ r .at ≤ at + 92 * steps ⌝ }
 {
-    let mut all = domains;
+    let mut last = Stepped {
+        answer: Answer::Absent,
+        domains,
+    };
     let mut next = at;
     let mut i = 0;
     while i < steps {
         let command = tracefile::command_at(file, steps, i);
-        let stepped = cache::step(
+        last = cache::step(
             g,
             tags,
             valid,
             dirty,
             words,
-            all,
+            last.domains,
             command.domain as usize,
             command.kind,
             command.argument,
         );
-        let answer = stepped.answer;
-        all = stepped.domains;
+        let answer = last.answer;
         next = lines::answer(i as usize, answer, out, next);
         i += 1;
     }
+    let after = last.domains;
     Ran {
         at: next,
-        domains: all,
+        domains: after,
     }
 }
 
@@ -81,10 +90,12 @@ fn listing(
     requires { ⌜ sized g (lengths (tablesOf (now tags) (now valid) (now dirty) (now words))) ≡ true ⌝ }
     requires { ⌜ steps ≤ 4096 ⌝ }
     requires { ⌜ 393216 ≤ length (now out) ⌝ }
-    ensures { λ r. ⌜ listedBy (tablesOf (now (tags .exit)) (now (valid .exit)) (now (dirty .exit)) (now (words .exit))) (writtenOf r (now (out .exit))) ≡ listingBy g (now (file .entry)) steps (now (out .entry)) ⌝ }
+    ensures { λ r. ⌜
+        listedBy (tablesOf (now (tags .exit)) (now (valid .exit)) (now (dirty .exit)) (now (words .exit))) (writtenOf r (now (out .exit)))
+        ≡ listingBy g (now (file .entry)) steps (now (out .entry)) ⌝ }
     ensures { λ r. ⌜ r ≤ 393216 ⌝ }
 {
-    cache::fresh_tables(g, tags, valid, dirty, words);
+    fresh::fresh_tables(g, tags, valid, dirty, words);
     let head = lines::head(g, steps as usize, out, 0);
     let ran = run(
         g,
@@ -94,7 +105,7 @@ fn listing(
         valid,
         dirty,
         words,
-        cache::fresh_domains(),
+        fresh::fresh_domains(),
         out,
         head,
     );
@@ -112,7 +123,10 @@ fn list_file(
 ) -> usize
     requires { ⌜ fileRefusal (now file) ≡ 0 ⌝ }
     requires { ⌜ Roomy (tablesOf (now tags) (now valid) (now dirty) (now words)) (now out) ⌝ }
-    ensures { λ r. ⌜ listedOf r (now (out .exit)) (tablesOf (now (tags .exit)) (now (valid .exit)) (now (dirty .exit)) (now (words .exit))) ≡ listOf (now (file .entry)) (now (out .entry)) (tablesOf (now (tags .entry)) (now (valid .entry)) (now (dirty .entry)) (now (words .entry))) ⌝ }
+    ensures { λ r. ⌜
+        listedOf r (now (out .exit)) (tablesOf (now (tags .exit)) (now (valid .exit)) (now (dirty .exit)) (now (words .exit)))
+        ≡ listOf (now (file .entry)) (now (out .entry))
+        (tablesOf (now (tags .entry)) (now (valid .entry)) (now (dirty .entry)) (now (words .entry))) ⌝ }
 {
     let g = tracefile::geometry(file);
     let steps = tracefile::steps(file);
@@ -139,7 +153,10 @@ pub fn list(
     words: &mut [u64; 256],
     out: &mut [u8; 393216],
 ) -> usize
-    ensures { λ r. ⌜ listedOf r (now (out .exit)) (tablesOf (now (tags .exit)) (now (valid .exit)) (now (dirty .exit)) (now (words .exit))) ≡ listOf (now (file .entry)) (now (out .entry)) (tablesOf (now (tags .entry)) (now (valid .entry)) (now (dirty .entry)) (now (words .entry))) ⌝ }
+    ensures { λ r. ⌜
+        listedOf r (now (out .exit)) (tablesOf (now (tags .exit)) (now (valid .exit)) (now (dirty .exit)) (now (words .exit)))
+        ≡ listOf (now (file .entry)) (now (out .entry))
+        (tablesOf (now (tags .entry)) (now (valid .entry)) (now (dirty .entry)) (now (words .entry))) ⌝ }
     ensures { λ r. ⌜ Counts r (now (out .exit)) ⌝ }
 {
     let number = tracefile::refusal(file);

@@ -12,7 +12,7 @@ ghost use Prim.Native.Nat.{_+_, _*_, _≤_, _<_};
 ghost use lib.ListN.{length};
 ghost use Rattle.row.specs.Answer.{answerOf};
 ghost use Rattle.trace.specs.Listing.{decimal, line, told as toldAs, headLine, refusedLine, domainLine, domainPart, domainLines};
-ghost use Rattle.trace.specs.Inside.{writtenOf, append};
+ghost use Rattle.trace.specs.Inside.{writtenOf, append, Says};
 
 // The line of a refused file.
 pub fn refused(number: usize, out: &mut [u8], at: usize) -> usize
@@ -38,11 +38,36 @@ fn step(place: usize, word: &[u8], values: &[u64], out: &mut [u8], at: usize) ->
     requires { ⌜ length (now word) ≤ 7 ⌝ }
     requires { ⌜ length (now values) ≤ 3 ⌝ }
     requires { ⌜ at + 92 ≤ length (now out) ⌝ }
-    ensures { λ r. ⌜ writtenOf r (now (out .exit)) ≡ append (line (decimal place ∷ now (word .entry) ∷ map decimal (now (values .entry)))) (writtenOf at (now (out .entry))) ⌝ }
+    ensures { λ r. ⌜
+        writtenOf r (now (out .exit))
+        ≡ append (line (decimal place ∷ now (word .entry) ∷ map decimal (now (values .entry)))) (writtenOf at (now (out .entry))) ⌝ }
     ensures { λ r. ⌜ r ≤ at + 92 ⌝ }
 {
     let next = text::number(place as u64, b' ', out, at);
     text::told(word, values, out, next)
+}
+
+// What a line says: a word of at most seven bytes with its length, and at most three fields with their number.
+pub struct Phrase(pub [u8; 7], pub usize, pub [u64; 3], pub usize);
+
+// An answer's word and fields.
+fn said(answer: Answer) -> Phrase
+    ensures { λ r. ⌜ Says r (toldAs (answerOf answer)) ⌝ }
+{
+    match answer {
+        Answer::Hit(way) => Phrase(*b"hit    ", 3, [way as u64, 0, 0], 1),
+        Answer::Fill(way) => Phrase(*b"fill   ", 4, [way as u64, 0, 0], 1),
+        Answer::Evict { way, tag, dirty } => {
+            Phrase(*b"evict  ", 5, [way as u64, tag, dirty as u64], 3)
+        }
+        Answer::Pass => Phrase(*b"pass   ", 4, [0, 0, 0], 0),
+        Answer::Flush { way, dirty } => Phrase(*b"flush  ", 5, [way as u64, dirty as u64, 0], 2),
+        Answer::Absent => Phrase(*b"absent ", 6, [0, 0, 0], 0),
+        Answer::Policy { dropped, dirty } => {
+            Phrase(*b"policy ", 6, [dropped as u64, dirty as u64, 0], 2)
+        }
+        Answer::Refused(number) => Phrase(*b"refused", 7, [number as u64, 0, 0], 1),
+    }
 }
 
 // The line of an answer.
@@ -51,22 +76,12 @@ pub fn answer(place: usize, answer: Answer, out: &mut [u8], at: usize) -> usize
     ensures { λ r. ⌜ writtenOf r (now (out .exit)) ≡ append (line (decimal place ∷ toldAs (answerOf answer))) (writtenOf at (now (out .entry))) ⌝ }
     ensures { λ r. ⌜ r ≤ at + 92 ⌝ }
 {
-    match answer {
-        Answer::Hit(way) => step(place, b"hit", &[way as u64], out, at),
-        Answer::Fill(way) => step(place, b"fill", &[way as u64], out, at),
-        Answer::Evict { way, tag, dirty } => {
-            step(place, b"evict", &[way as u64, tag, dirty as u64], out, at)
-        }
-        Answer::Pass => step(place, b"pass", &[], out, at),
-        Answer::Flush { way, dirty } => {
-            step(place, b"flush", &[way as u64, dirty as u64], out, at)
-        }
-        Answer::Absent => step(place, b"absent", &[], out, at),
-        Answer::Policy { dropped, dirty } => {
-            step(place, b"policy", &[dropped as u64, dirty as u64], out, at)
-        }
-        Answer::Refused(number) => step(place, b"refused", &[number as u64], out, at),
-    }
+    let said = said(answer);
+    let word = said.0;
+    let length = said.1;
+    let values = said.2;
+    let count = said.3;
+    step(place, &word[..length], &values[..count], out, at)
 }
 
 // The line of a domain.

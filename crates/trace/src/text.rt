@@ -10,6 +10,7 @@ ghost use Rattle.trace.specs.Inside.{writtenOf, append, endOf};
 fn put(bytes: &[u8], out: &mut [u8], at: usize) -> usize
     requires { ⌜ at + length (now bytes) ≤ length (now out) ⌝ }
     ensures { λ r. ⌜ writtenOf r (now (out .exit)) ≡ append (now (bytes .entry)) (writtenOf at (now (out .entry))) ⌝ }
+    ensures { λ r. ⌜ r ≡ at + length (now (bytes .entry)) ⌝ }
 {
     let count = bytes.len();
     let mut i = 0;
@@ -26,6 +27,11 @@ pub fn number(n: u64, end: u8, out: &mut [u8], at: usize) -> usize
     ensures { λ r. ⌜ writtenOf r (now (out .exit)) ≡ append (decimal n ++ end ∷ []) (writtenOf at (now (out .entry))) ⌝ }
     ensures { λ r. ⌜ r ≤ at + 21 ⌝ }
 {
+    if n < 10 {
+        out[at] = b'0' + (n as u8);
+        out[at + 1] = end;
+        return at + 2;
+    }
     let mut digits = [0u8; 20];
     let count = io::decimal(n, &mut digits);
     let next = put(&digits[..count], out, at);

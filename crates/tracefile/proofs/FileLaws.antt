@@ -3,7 +3,7 @@ use mathlib.Core.Path.{_≡_, refl, sym, ap, ap₂, _∙_}
 use mathlib.Core.Bool.{Bool, true, false, cond, not, _||_}
 use mathlib.Core.List.{List, [], _∷_}
 use Prim.Native.Nat.{ℕ, zero, suc, _+_, _-_, _*_, _/_, _%_, _^_, _≤_, _<_}
-use native.Mathlib.Nat.{add-zero, pow-suc, pow-le-pow-right}
+use native.Mathlib.Nat.{add-zero, suc-ne-zero, pow-suc, pow-le-pow-right}
 use native.Mathlib.Omega.{arith}
 use lib.Dec.{eqb, ltb}
 use lib.ListN.{length, take, drop, getD, List·getD-eq-default}
@@ -11,6 +11,7 @@ use lib.Seq.{take-nil, drop-nil}
 use borrow.Author.Tests.{ltb-false, eqb-true, lt-ltb, le-ltb, eq-eqb, ne-eqb}
 use Rattle.waymap.proofs.Booleans.{cases}
 use Rattle.verdict.specs.Geometry.{within}
+use Rattle.verdict.specs.declared.Geometry.{Geometry}
 use Rattle.tracefile.specs.File.{value, field, geometryOf, stepCount, maxSteps, badFile, fileRefusal}
 
 -- ---- a field
@@ -76,20 +77,22 @@ pub bad-short : (file : List ℕ) → length file < 8 → 10 ≡ fileRefusal fil
 unfolding fileRefusal badFile
 bad-short file h = rw (lt-ltb (length file) 8 h)
 
-pub bad-length : (file : List ℕ) → 8 ≤ length file → (length file ≡ 8 + 10 * stepCount file → ⊥) → 10 ≡ fileRefusal file
-unfolding fileRefusal badFile
-bad-length file h e = rw (le-ltb (length file) 8 h, ne-eqb (length file) (8 + 10 * stepCount file) e)
+-- A file of 8 bytes or more names n steps; then its length, the steps' number and the geometry decide.
+module _ (file : List ℕ) {n : ℕ} (named : n ≡ stepCount file) (long : 8 ≤ length file) where
+  pub bad-length : (length file ≡ 8 + 10 * n → ⊥) → 10 ≡ fileRefusal file
+  unfolding fileRefusal badFile
+  bad-length e = rw (le-ltb (length file) 8 long, ← named, ne-eqb (length file) (8 + 10 * n) e)
 
-pub bad-steps : (file : List ℕ) → 8 ≤ length file → length file ≡ 8 + 10 * stepCount file → 4096 < stepCount file → 10 ≡ fileRefusal file
-unfolding fileRefusal badFile
-bad-steps file h e m =
-    rw (le-ltb (length file) 8 h, eq-eqb (length file) (8 + 10 * stepCount file) e, lt-ltb maxSteps (stepCount file) m)
+  pub bad-steps : length file ≡ 8 + 10 * n → 4096 < n → 10 ≡ fileRefusal file
+  unfolding fileRefusal badFile
+  bad-steps e m = rw (le-ltb (length file) 8 long, ← named, eq-eqb (length file) (8 + 10 * n) e, lt-ltb maxSteps n m)
 
-pub good-file : (file : List ℕ) → 8 ≤ length file → length file ≡ 8 + 10 * stepCount file → stepCount file ≤ 4096
-    → fileRefusal file ≡ cond (not (within (geometryOf file))) 1 0
-unfolding fileRefusal badFile
-good-file file h e m =
-    rw (le-ltb (length file) 8 h, eq-eqb (length file) (8 + 10 * stepCount file) e, le-ltb maxSteps (stepCount file) m)
+  pub good-file : {g : Geometry} {stands : Bool} → length file ≡ 8 + 10 * n → n ≤ 4096 → g ≡ geometryOf file → stands ≡ within g
+      → cond (not stands) 1 0 ≡ fileRefusal file
+  unfolding fileRefusal badFile
+  good-file e m is w =
+      ap (λ (b : Bool). cond (not b) 1 0) (w ∙ ap within is)
+      ∙ rw (le-ltb (length file) 8 long, ← named, eq-eqb (length file) (8 + 10 * n) e, le-ltb maxSteps n m)
 
 -- ---- a file that is not refused
 
@@ -103,10 +106,10 @@ pub accepted : (file : List ℕ) → fileRefusal file ≡ 0 → Accepted file
 unfolding fileRefusal badFile
 accepted file e =
     cases (ltb (length file) 8)
-    (λ a. absurd (nonzero 9 (rw a at e)))
+    (λ a. absurd (suc-ne-zero 9 (rw a at e)))
     (λ a. cases (eqb (length file) (8 + 10 * stepCount file))
     (λ b. cases (ltb maxSteps (stepCount file))
-    (λ d. absurd (nonzero 9 (rw (a, b, d) at e)))
+    (λ d. absurd (suc-ne-zero 9 (rw (a, b, d) at e)))
     (λ d. cases (within (geometryOf file))
     (λ w. record {
       long = ltb-false (length file) 8 a;
@@ -114,8 +117,5 @@ accepted file e =
       short = ltb-false maxSteps (stepCount file) d;
       limits = w;
     })
-    (λ w. absurd (nonzero 0 (rw (a, b, d, w) at e)))))
-    (λ b. absurd (nonzero 9 (rw (a, b) at e))))
-  where
-    nonzero : (n : ℕ) → suc n ≡ 0 → ⊥
-    nonzero n q = omega arith
+    (λ w. absurd (suc-ne-zero 0 (rw (a, b, d, w) at e)))))
+    (λ b. absurd (suc-ne-zero 9 (rw (a, b) at e))))

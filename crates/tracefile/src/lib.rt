@@ -16,12 +16,13 @@ fn byte(file: &[u8], at: usize) -> u64
     ensures { λ r. ⌜ r < 256 ⌝ }
 {
     if at < file.len() {
-        return wide(file[at]);
+        return byte_value(file[at]);
     }
     0
 }
 
-fn wide(byte: u8) -> u64
+// A byte as a number of 64 bits.
+fn byte_value(byte: u8) -> u64
     ensures { λ r. ⌜ r ≡ byte ⌝ }
     ensures { λ r. ⌜ r < 256 ⌝ }
 {

@@ -24,7 +24,10 @@ add-result : tie.Need-add-result Inv-loop μ-loop
 add-result c = omega arith
 
 returns : tie.Need-returns Inv-loop μ-loop
-returns c = let h = add-one-le (c .before .before .loop-test .taken) in (h, sym (length-take-le ((c .before .before .before .loop .i) + 1) (c .before .before .before .before .args .text .now) h))
+returns c =
+    let asked = c .before .before in
+    let h = add-one-le (asked .loop-test .taken) in
+    (h, sym (length-take-le (asked .before .loop .i + 1) (asked .before .before .args .text .now) h))
 
 add-i : tie.Need-add-i Inv-loop μ-loop
 add-i c = omega arith

@@ -1,9 +1,12 @@
 -- `purger::split` meets its contract.
-use borrow.Author.Needs.{needs}
-use mathlib.Core.Path.{_≡_, refl, _∙_}
-use Prim.Native.Nat.{_-_, _≤_}
+use mathlib.Core.Path.{_≡_, refl, sym, _∙_}
+use Prim.Native.Nat.{_-_}
+use native.Mathlib.Nat.{le-trans, le-of-eq, lt-of-lt-of-le}
 use native.Mathlib.Omega.{arith}
 use lib.ListN.{length, length-set}
+use borrow.Author.Count.{falls}
+use borrow.Author.Needs.{needs}
+use Rattle.tracefile.proofs.PlaceLaws.{place-fits, next-fits}
 use Rattle.purger.proofs.split.Statement.{statement}
 use Rattle.purger.proofs.split.Tie as tie
 
@@ -20,37 +23,57 @@ command-at-requires : tie.Need-command-at-requires Inv-loop μ-loop
 command-at-requires c κs = search needs
 
 cast-place : tie.Need-cast-place Inv-loop μ-loop
-cast-place c = omega (arith, (c .before .loop-test .taken), (c .before .before .before .before .before .before .fits .n))
+cast-place c =
+    let asked = c .before in
+    place-fits (asked .loop-test .taken) (asked .before .before .before .before .before .fits .n)
 
 code-of-requires : tie.Need-code-of-requires Inv-loop μ-loop
 code-of-requires c κs = search needs
 
 mul-codes : tie.Need-mul-codes Inv-loop μ-loop
-mul-codes c = omega (arith, (c .before .before .loop-test .taken), (c .before .before .before .before .before .before .before .fits .n))
+mul-codes c =
+    let asked = c .before .before in
+    omega (arith, asked .loop-test .taken, asked .before .before .before .before .before .fits .n)
 
 slice-write-codes : tie.Need-slice-write-codes Inv-loop μ-loop
-slice-write-codes c = omega (arith, (c .before .before .before .before .before .before .before .pre .0), (c .before .before .before .loop .inv .0), (c .before .before .loop-test .taken))
+slice-write-codes c =
+    let asked = c .before .before in
+    let loop = asked .before .loop in
+    lt-of-lt-of-le (asked .loop-test .taken) (le-trans (asked .before .before .before .before .before .pre .0) (le-of-eq (sym (loop .inv .0))))
 
 mul-arguments : tie.Need-mul-arguments Inv-loop μ-loop
-mul-arguments c = omega (arith, (c .before .before .loop-test .taken), (c .before .before .before .before .before .before .before .fits .n))
+mul-arguments c =
+    let asked = c .before .before in
+    omega (arith, asked .loop-test .taken, asked .before .before .before .before .before .fits .n)
 
 slice-write-arguments : tie.Need-slice-write-arguments Inv-loop μ-loop
-slice-write-arguments c = omega (arith, (c .before .before .before .before .before .before .before .pre .1), (c .before .before .before .loop .inv .1), (c .before .before .loop-test .taken))
+slice-write-arguments c =
+    let asked = c .before .before in
+    let loop = asked .before .loop in
+    lt-of-lt-of-le (asked .loop-test .taken) (le-trans (asked .before .before .before .before .before .pre .1) (le-of-eq (sym (loop .inv .1))))
 
 add-i : tie.Need-add-i Inv-loop μ-loop
-add-i c = omega (arith, (c .before .before .loop-test .taken), (c .before .before .before .before .before .before .before .fits .n))
+add-i c =
+    let asked = c .before .before in
+    next-fits (asked .loop-test .taken) (asked .before .before .before .before .before .fits .n)
 
 loop-less : tie.Need-loop-less Inv-loop μ-loop
-loop-less c = omega arith
+loop-less c =
+    let asked = c .before .before in
+    falls (asked .before .before .before .before .before .args .n) (asked .before .loop .i) (asked .loop-test .taken)
 
 loop-again : tie.Need-loop-again Inv-loop μ-loop
-loop-again c = (length-set (c .before .before .before .loop .codes) (c .before .before .before .loop .i) (c .code-of .result) ∙ (c .before .before .before .loop .inv .0), length-set (c .before .before .before .loop .arguments) (c .before .before .before .loop .i) ((c .before .command-at .result) .argument) ∙ (c .before .before .before .loop .inv .1))
+loop-again c =
+    let loop = c .before .before .before .loop in (
+      length-set (loop .codes) (loop .i) (c .code-of .result) ∙ loop .inv .0,
+      length-set (loop .arguments) (loop .i) (c .before .command-at .result .argument) ∙ loop .inv .1,
+    )
 
 same-length : tie.Need-same-length Inv-loop μ-loop
-same-length c = (c .before .loop .inv .0)
+same-length c = c .before .loop .inv .0
 
 same-length-2 : tie.Need-same-length-2 Inv-loop μ-loop
-same-length-2 c = (c .before .loop .inv .1)
+same-length-2 c = c .before .loop .inv .1
 
 returns : tie.Need-returns Inv-loop μ-loop
 returns c = search needs

@@ -1,9 +1,11 @@
 -- `stepper::put_maps` meets its contract.
-use borrow.Author.Needs.{needs}
 use mathlib.Core.Path.{_≡_, refl, _∙_}
 use Prim.Native.Nat.{_-_}
 use native.Mathlib.Omega.{arith}
 use lib.ListN.{length}
+use borrow.Author.Count.{falls}
+use borrow.Author.Needs.{needs}
+use Rattle.stepper.proofs.RowLaws.{hit-room, fill-room}
 use Rattle.stepper.proofs.put_maps.Statement.{statement}
 use Rattle.stepper.proofs.put_maps.Tie as tie
 
@@ -26,34 +28,44 @@ cast-put : tie.Need-cast-put Inv-loop μ-loop
 cast-put c = search needs
 
 mul-put : tie.Need-mul-put Inv-loop μ-loop
-mul-put c = omega (arith, (c .before .before .before .loop-test .taken))
+mul-put c = omega (arith, c .before .before .before .loop-test .taken)
 
 put-requires : tie.Need-put-requires Inv-loop μ-loop
-put-requires c κs = omega (arith, (c .before .before .before .before .before .before .pre), (c .before .before .before .before .loop .inv), (c .before .before .before .loop-test .taken))
+put-requires c κs =
+    let asked = c .before .before .before in
+    hit-room (asked .loop-test .taken) (asked .before .loop .inv) (asked .before .before .before .pre)
 
 cast-put-2 : tie.Need-cast-put-2 Inv-loop μ-loop
 cast-put-2 c = search needs
 
 mul-put-2 : tie.Need-mul-put-2 Inv-loop μ-loop
-mul-put-2 c = omega (arith, (c .before .before .before .before .before .before .before .before .loop-test .taken))
+mul-put-2 c = omega (arith, c .before .before .before .before .before .before .before .before .loop-test .taken)
 
 add-put : tie.Need-add-put Inv-loop μ-loop
-add-put c = omega (arith, (c .before .before .before .before .before .before .before .before .loop-test .taken))
+add-put c = omega (arith, c .before .before .before .before .before .before .before .before .loop-test .taken)
 
 put-requires-2 : tie.Need-put-requires-2 Inv-loop μ-loop
-put-requires-2 c κs = omega (arith, (c .before .before .before .before .before .before .before .before .before .before .before .pre), (c .before .before .before .before .before .before .before .before .before .loop .inv), (c .before .before .before .before .before .before .before .before .loop-test .taken), (c .before .before .before .before .put .kept .1 .1 .0))
+put-requires-2 c κs =
+    let hit = c .before .before .before .before in
+    let asked = hit .before .before .before .before in
+    fill-room (asked .loop-test .taken) (hit .put .kept .1 .1 .0 ∙ asked .before .loop .inv) (asked .before .before .before .pre)
 
 add-d : tie.Need-add-d Inv-loop μ-loop
 add-d c = omega arith
 
 loop-less : tie.Need-loop-less Inv-loop μ-loop
-loop-less c = omega arith
+loop-less c =
+    let hit = c .before .before .before .before .before .before .before in
+    let asked = hit .before .before .before .before in
+    falls 16 (asked .before .loop .d) (asked .loop-test .taken)
 
 loop-again : tie.Need-loop-again Inv-loop μ-loop
-loop-again c = (c .before .before .put2 .kept .1 .1 .0) ∙ (c .before .before .before .before .before .before .before .put .kept .1 .1 .0) ∙ (c .before .before .before .before .before .before .before .before .before .before .before .before .loop .inv)
+loop-again c =
+    let hit = c .before .before .before .before .before .before .before in
+    c .before .before .put2 .kept .1 .1 .0 ∙ hit .put .kept .1 .1 .0 ∙ hit .before .before .before .before .before .loop .inv
 
 same-length : tie.Need-same-length Inv-loop μ-loop
-same-length c = (c .before .loop .inv)
+same-length c = c .before .loop .inv
 
 returns : tie.Need-returns Inv-loop μ-loop
 returns c = search needs

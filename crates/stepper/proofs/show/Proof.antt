@@ -1,7 +1,5 @@
 -- `stepper::show` meets its contract.
-use mathlib.Core.Path.{sym}
-use native.Mathlib.Omega.{arith}
-use lib.Seq.{length-take-le}
+use mathlib.Core.Path.{_∙_}
 use borrow.Author.Needs.{needs}
 use Rattle.stepper.proofs.show.Statement.{statement}
 use Rattle.stepper.proofs.show.Tie as tie
@@ -22,16 +20,21 @@ put-rows-requires : tie.Need-put-rows-requires
 put-rows-requires c κs = search needs
 
 slice-reshare-prefix-write-all : tie.Need-slice-reshare-prefix-write-all
-slice-reshare-prefix-write-all c = search needs
+slice-reshare-prefix-write-all c = c .before .before .put-rows .ensures .0
 
 slice-aggregate-write-all : tie.Need-slice-aggregate-write-all
-slice-aggregate-write-all c = sym (length-take-le (c .before .before .before .put-rows .result) (c .before .before .before .put-rows .last .1 .1 .1 .1 .1 .1 .1 .0) (omega (arith, (c .before .before .before .put-rows .ensures), (c .before .before .before .put-rows .kept .1 .1 .1 .1 .1 .1 .1 .0), (c .before .before .before .before .before .before .before .put2 .kept .1 .1 .0), (c .before .before .before .before .before .before .before .before .before .before .before .put .kept .1 .1 .0), (c .before .before .before .before .before .before .before .before .before .before .before .before .before .before .before .put-maps .kept .1 .0), (c .before .before .before .before .before .before .before .before .before .before .before .before .before .before .before .before .before .before .before .before .before .before .pre .1 .1 .1 .1))))
+slice-aggregate-write-all c = c .before .before .before .put-rows .ensures .1
 
 write-all-requires : tie.Need-write-all-requires
 write-all-requires c κs = search needs
 
 same-length : tie.Need-same-length
-same-length c = search needs
+same-length c =
+    let rows = c .before .before .before .before in
+    let counted = rows .before .before .before .before in
+    let named = counted .before .before .before .before in
+    rows .put-rows .kept .1 .1 .1 .1 .1 .1 .1 .0 ∙ counted .put2 .kept .1 .1 .0 ∙ named .put .kept .1 .1 .0
+    ∙ named .before .before .before .before .put-maps .kept .1 .0
 
 returns : tie.Need-returns
 returns c = search needs

@@ -12,7 +12,13 @@ refused-requires : tie.Need-refused-requires
 refused-requires c κs = search needs
 
 returns : tie.Need-returns
-returns c = let is = refused-is (c .before .before .before .before .before .args .file .now) (c .before .before .before .before .before .args .out .now) (c .refused .last .1 .0) (tablesOf (c .before .before .before .before .before .args .tags .now) (c .before .before .before .before .before .args .valid .now) (c .before .before .before .before .before .args .dirty .now) (c .before .before .before .before .before .args .words .now)) (c .before .before .before .refusal .ensures) (c .before .before .if1 .taken) (search needs) (c .refused .ensures .0) (c .refused .ensures .1) in (is, listed-counts _ _ _ is)
+returns c =
+    let given = c .before .before .before .before .before .args in
+    let refused = c .refused in
+    let is = refused-is (given .file .now) (given .out .now) (refused .last .1 .0)
+    (tablesOf (given .tags .now) (given .valid .now) (given .dirty .now) (given .words .now))
+    (c .before .before .before .refusal .ensures) (c .before .before .if1 .taken) (search needs) (refused .ensures .0) (refused .ensures .1) in
+    (is, listed-counts _ _ _ is)
 
 list-file-requires : tie.Need-list-file-requires
 list-file-requires c κs = search needs

@@ -6,11 +6,11 @@ use borrow.Author.Needs.{needs}
 use Rattle.tracefile.proofs.byte.Statement.{statement}
 use Rattle.tracefile.proofs.byte.Tie as tie
 
-shared-slice-read-wide : tie.Need-shared-slice-read-wide
-shared-slice-read-wide c = search needs
+shared-slice-read-byte-value : tie.Need-shared-slice-read-byte-value
+shared-slice-read-byte-value c = search needs
 
-wide-requires : tie.Need-wide-requires
-wide-requires c κs = search needs
+byte-value-requires : tie.Need-byte-value-requires
+byte-value-requires c κs = search needs
 
 returns : tie.Need-returns
 returns c = search needs
@@ -19,4 +19,4 @@ returns-2 : tie.Need-returns-2
 returns-2 c = (sym (List·getD-eq-default (c .before .before .args .file .now) 0 (c .if1 .left)), omega arith)
 
 pub byte-spec : {M : Type 1} → statement M
-byte-spec = tie.close (tie.spec shared-slice-read-wide wide-requires returns returns-2)
+byte-spec = tie.close (tie.spec shared-slice-read-byte-value byte-value-requires returns returns-2)

@@ -1,8 +1,6 @@
 -- `tracefile::refusal` meets its contract.
 use mathlib.Core.Path.{sym, ap, _∙_}
 use mathlib.Core.Bool.{Bool, cond, not}
-use Prim.Native.Nat.{ℕ}
-use Rattle.verdict.specs.Geometry.{within}
 use Rattle.tracefile.proofs.FileLaws.{bad-short, bad-length, bad-steps, good-file}
 use borrow.Author.Needs.{needs}
 use Rattle.tracefile.proofs.refusal.Statement.{statement}
@@ -24,10 +22,14 @@ add-if2 : tie.Need-add-if2
 add-if2 c = search needs
 
 returns-2 : tie.Need-returns-2
-returns-2 c = bad-length (c .before .before .before .before .args .file .now) (c .before .before .if1 .left) (rw (sym (c .before .steps .ensures)) (c .if2 .taken))
+returns-2 c =
+    let named = c .before in
+    bad-length (c .before .before .before .before .args .file .now) (named .steps .ensures) (c .before .before .if1 .left) (c .if2 .taken)
 
 returns-3 : tie.Need-returns-3
-returns-3 c = bad-steps (c .before .before .before .before .before .args .file .now) (c .before .before .before .if1 .left) (rw (sym (c .before .before .steps .ensures)) (c .before .if2 .left)) (rw (sym (c .before .before .steps .ensures)) (c .if3 .taken))
+returns-3 c =
+    let named = c .before .before in
+    bad-steps (named .before .before .before .args .file .now) (named .steps .ensures) (named .before .if1 .left) (c .before .if2 .left) (c .if3 .taken)
 
 geometry-requires : tie.Need-geometry-requires
 geometry-requires c κs = search needs
@@ -36,10 +38,18 @@ within-requires : tie.Need-within-requires
 within-requires c κs = search needs
 
 returns-4 : tie.Need-returns-4
-returns-4 c = sym (good-file (c .before .before .before .before .before .before .before .before .args .file .now) (c .before .before .before .before .before .before .if1 .left) (rw (sym (c .before .before .before .before .before .steps .ensures)) (c .before .before .before .before .if2 .left)) (rw (sym (c .before .before .before .before .before .steps .ensures)) (c .before .before .before .if3 .left)) ∙ ap (λ (b : Bool). cond (not b) 1 0) (ap within (sym (c .before .before .geometry .ensures)) ∙ sym (c .before .within .ensures) ∙ (c .if4 .taken)))
+returns-4 c =
+    let named = c .before .before .before .before .before in
+    ap (λ (b : Bool). cond (not b) 1 0) (sym (c .if4 .taken))
+    ∙ good-file (named .before .before .before .args .file .now) (named .steps .ensures) (named .before .if1 .left)
+    (c .before .before .before .before .if2 .left) (c .before .before .before .if3 .left) (c .before .before .geometry .ensures) (c .before .within .ensures)
 
 returns-5 : tie.Need-returns-5
-returns-5 c = sym (good-file (c .before .before .before .before .before .before .before .before .args .file .now) (c .before .before .before .before .before .before .if1 .left) (rw (sym (c .before .before .before .before .before .steps .ensures)) (c .before .before .before .before .if2 .left)) (rw (sym (c .before .before .before .before .before .steps .ensures)) (c .before .before .before .if3 .left)) ∙ ap (λ (b : Bool). cond (not b) 1 0) (ap within (sym (c .before .before .geometry .ensures)) ∙ sym (c .before .within .ensures) ∙ (c .if4 .left)))
+returns-5 c =
+    let named = c .before .before .before .before .before in
+    ap (λ (b : Bool). cond (not b) 1 0) (sym (c .if4 .left))
+    ∙ good-file (named .before .before .before .args .file .now) (named .steps .ensures) (named .before .if1 .left)
+    (c .before .before .before .before .if2 .left) (c .before .before .before .if3 .left) (c .before .before .geometry .ensures) (c .before .within .ensures)
 
 pub refusal-spec : {M : Type 1} → statement M
 refusal-spec =

@@ -2,7 +2,7 @@
 use Prim.Native.Nat.{_-_}
 use native.Mathlib.Omega.{arith}
 use Rattle.verdict.specs.Domains.{domainOf}
-use Rattle.trace.proofs.LineLaws.{Naming, name-begin, name-turned, name-end}
+use Rattle.trace.proofs.LineLaws.{Naming, name-begin, name-room, name-turned, name-short, name-end}
 use Rattle.trace.proofs.lines.domains.Statement.{statement}
 use Rattle.trace.proofs.lines.domains.Tie as tie
 
@@ -22,7 +22,7 @@ element-copy-out-part : tie.Need-element-copy-out-part Inv-loop μ-loop
 element-copy-out-part c = (c .loop-test .taken)
 
 part-requires : tie.Need-part-requires Inv-loop μ-loop
-part-requires c κs = omega (arith, (c .before .before .before .loop .inv .fits), (c .before .before .before .loop .inv .long), (c .before .before .before .loop .inv .behind))
+part-requires c κs = name-room (c .before .before .before .loop .inv) (c .before .before .loop-test .taken)
 
 add-d : tie.Need-add-d Inv-loop μ-loop
 add-d c = omega arith
@@ -32,13 +32,16 @@ loop-less c = omega arith
 
 loop-again : tie.Need-loop-again Inv-loop μ-loop
 unfolding domainOf
-loop-again c = name-turned (c .before .before .before .before .before .before .loop .inv) (c .before .before .before .before .before .loop-test .taken) (c .before .before .part .ensures .0) (c .before .before .part .ensures .1)
+loop-again c =
+    let part = c .before .before .part in
+    let asked = c .before .before .before .before .before in
+    name-turned (asked .before .loop .inv) (asked .loop-test .taken) (part .ensures .0) (part .ensures .1)
 
 same-length : tie.Need-same-length Inv-loop μ-loop
-same-length c = (c .before .loop .inv .long)
+same-length c = c .before .loop .inv .long
 
 returns : tie.Need-returns Inv-loop μ-loop
-returns c = (name-end (c .before .loop .inv) (c .loop-test .left), omega (arith, (c .before .loop .inv .behind), (c .before .loop .inv .inside)))
+returns c = (name-end (c .before .loop .inv) (c .loop-test .left), name-short (c .before .loop .inv))
 
 pub domains-spec : {M : Type 1} → statement M
 domains-spec =

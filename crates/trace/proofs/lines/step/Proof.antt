@@ -18,7 +18,15 @@ same-length : tie.Need-same-length
 same-length c = search needs
 
 returns : tie.Need-returns
-returns c = (step-is (c .before .before .before .before .before .before .before .before .before .before .before .args .place) (c .before .before .before .before .before .before .before .before .before .before .before .args .word .now) (map decimal (c .before .before .before .before .before .before .before .before .before .before .before .args .values .now)) (writtenOf (c .before .before .before .before .before .before .before .before .before .before .before .args .at) (c .before .before .before .before .before .before .before .before .before .before .before .args .out .now)) (c .before .before .before .before .before .before .number .ensures .0) (c .before .before .told .ensures .0), omega (arith, (c .before .before .told .ensures .1), (c .before .before .before .before .before .before .number .ensures .1), (c .before .before .before .before .before .before .before .before .before .before .before .pre)))
+returns c =
+    let entry = c .before .before .before .before .before .before .before .before .before .before .before in
+    let given = entry .args in
+    let number = c .before .before .before .before .before .before .number in
+    let told = c .before .before .told in (
+      step-is (given .place) (given .word .now) (map decimal (given .values .now)) (writtenOf (given .at) (given .out .now))
+          (number .ensures .0) (told .ensures .0),
+      omega (arith, told .ensures .1, number .ensures .1, entry .pre),
+    )
 
 pub step-spec : {M : Type 1} → statement M
 step-spec = tie.close (tie.spec number-requires told-requires same-length returns)

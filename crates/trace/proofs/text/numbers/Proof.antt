@@ -1,15 +1,7 @@
 -- `trace::text::numbers` meets its contract. The invariant: the numbers to come make the whole.
-use mathlib.Core.Path.{ap, _∙_}
-use mathlib.Core.List.{List, [], _∷_, _++_}
-use Prim.Native.Nat.{ℕ}
-use lib.ListN.{getD, length}
-use Rattle.trace.specs.Listing.{decimal}
-use Rattle.trace.specs.Inside.{writtenOf, append, endOf}
-use Rattle.trace.proofs.TextLaws.{piece-long}
 use Prim.Native.Nat.{_-_}
 use native.Mathlib.Omega.{arith}
-use mathlib.Core.Path.{sym}
-use Rattle.trace.proofs.TextLaws.{Lining, line-begin, line-turned, line-end}
+use Rattle.trace.proofs.TextLaws.{Lining, line-begin, line-room, line-turned, line-short, line-end}
 use Rattle.trace.proofs.text.numbers.Statement.{statement}
 use Rattle.trace.proofs.text.numbers.Tie as tie
 
@@ -20,7 +12,9 @@ abbrev μ-loop : tie.MeasureT-loop
 μ-loop values out₀ at count next₀ i₀ out next i = count - i
 
 loop-holds : tie.Need-loop-holds Inv-loop μ-loop
-loop-holds c = line-begin (c .before .before .args .values .now) (c .before .before .args .out .now) (c .before .before .args .at) (c .before .before .pre)
+loop-holds c =
+    let entry = c .before .before in
+    line-begin (entry .args .values .now) (entry .args .out .now) (entry .args .at) (entry .pre)
 
 mul-number : tie.Need-mul-number Inv-loop μ-loop
 mul-number c = omega arith
@@ -32,7 +26,7 @@ end-of-requires : tie.Need-end-of-requires Inv-loop μ-loop
 end-of-requires c κs = (c .before .loop-test .taken)
 
 number-requires : tie.Need-number-requires Inv-loop μ-loop
-number-requires c κs = omega (arith, (c .before .before .before .before .loop .inv .fits), (c .before .before .before .before .loop .inv .long), (c .before .before .before .before .loop .inv .behind))
+number-requires c κs = line-room (c .before .before .before .before .loop .inv) (c .before .before .before .loop-test .taken)
 
 add-i : tie.Need-add-i Inv-loop μ-loop
 add-i c = omega arith
@@ -41,13 +35,18 @@ loop-less : tie.Need-loop-less Inv-loop μ-loop
 loop-less c = omega arith
 
 loop-again : tie.Need-loop-again Inv-loop μ-loop
-loop-again c = line-turned 0 (c .before .before .before .before .before .before .before .loop .inv) (c .before .before .before .before .before .before .loop-test .taken) ((c .before .before .number .ensures .0) ∙ ap (λ (x : ℕ). append (decimal (getD (c .before .before .before .before .before .before .before .before .before .before .args .values .now) (c .before .before .before .before .before .before .before .loop .i) 0) ++ x ∷ []) (writtenOf (c .before .before .before .before .before .before .before .loop .next) (c .before .before .before .before .before .before .before .loop .out))) (c .before .before .before .before .end-of .ensures)) (c .before .before .number .ensures .1) (piece-long (decimal (getD (c .before .before .before .before .before .before .before .before .before .before .args .values .now) (c .before .before .before .before .before .before .before .loop .i) 0) ++ (c .before .before .before .before .end-of .result) ∷ []) (writtenOf (c .before .before .before .before .before .before .before .loop .next) (c .before .before .before .before .before .before .before .loop .out)) (c .before .before .number .ensures .0))
+loop-again c =
+    let number = c .before .before .number in
+    let ended = c .before .before .before .before in
+    let asked = ended .before .before in
+    line-turned 0 (asked .before .loop .inv) (asked .loop-test .taken) (ended .end-of .ensures) (number .ensures .0) (number .ensures .1)
+    (number .kept .1 .1 .0)
 
 same-length : tie.Need-same-length Inv-loop μ-loop
-same-length c = (c .before .loop .inv .long)
+same-length c = c .before .loop .inv .long
 
 returns : tie.Need-returns Inv-loop μ-loop
-returns c = (line-end (c .before .loop .inv) (c .loop-test .left), omega (arith, (c .before .loop .inv .behind), (c .before .loop .inv .inside)))
+returns c = (line-end (c .before .loop .inv) (c .loop-test .left), line-short (c .before .loop .inv))
 
 pub numbers-spec : {M : Type 1} → statement M
 numbers-spec =

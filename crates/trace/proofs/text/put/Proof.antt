@@ -1,4 +1,5 @@
 -- `trace::text::put` meets its contract. The invariant: the bytes to come make the whole.
+use mathlib.Core.Path.{refl}
 use Prim.Native.Nat.{_-_}
 use native.Mathlib.Omega.{arith}
 use Rattle.trace.proofs.TextLaws.{Putting, put-begin, put-turned, put-end}
@@ -39,7 +40,7 @@ same-length : tie.Need-same-length Inv-loop μ-loop
 same-length c = (c .before .loop .inv .long)
 
 returns : tie.Need-returns Inv-loop μ-loop
-returns c = put-end (c .before .loop .inv) (c .loop-test .left)
+returns c = (put-end (c .before .loop .inv) (c .loop-test .left), refl)
 
 pub put-spec : {M : Type 1} → statement M
 put-spec =

@@ -1,13 +1,10 @@
 -- `trace::text::told` meets its contract.
+use mathlib.Core.Path.{_∙_}
 use native.Mathlib.Omega.{arith}
-use mathlib.Core.Path.{ap, _∙_}
-use mathlib.Core.List.{List, map}
-use Prim.Native.Nat.{ℕ, _+_}
-use lib.ListN.{length, set, length-set}
-use Rattle.trace.specs.Listing.{decimal, line}
-use Rattle.trace.specs.Inside.{Written, writtenOf, append, endOf}
-use Rattle.trace.proofs.TextLaws.{piece-end, piece-long, told-is}
+use lib.ListN.{length, length-set}
 use borrow.Author.Needs.{needs}
+use Rattle.trace.specs.Inside.{writtenOf}
+use Rattle.trace.proofs.TextLaws.{told-is, word-inside, numbers-room, told-short}
 use Rattle.trace.proofs.text.told.Statement.{statement}
 use Rattle.trace.proofs.text.told.Tie as tie
 
@@ -21,19 +18,47 @@ end-of-requires : tie.Need-end-of-requires
 end-of-requires c κs = search needs
 
 slice-write-out : tie.Need-slice-write-out
-slice-write-out c = omega (arith, (c .before .before .before .before .before .before .before .before .pre), piece-end (c .before .before .before .before .before .before .before .before .args .word .now) (writtenOf (c .before .before .before .before .before .before .before .before .args .at) (c .before .before .before .before .before .before .before .before .args .out .now)) (c .before .before .before .put .ensures), piece-long (c .before .before .before .before .before .before .before .before .args .word .now) (writtenOf (c .before .before .before .before .before .before .before .before .args .at) (c .before .before .before .before .before .before .before .before .args .out .now)) (c .before .before .before .put .ensures))
+slice-write-out c =
+    let entry = c .before .before .before .before .before .before .before .before in
+    let put = c .before .before .before .put in
+    let word = length (entry .args .word .now) in
+    let count = length (entry .args .values .now) in
+    word-inside (entry .args .at) word count (put .ensures .1) (put .kept .1 .0) (entry .pre)
 
 add-numbers : tie.Need-add-numbers
-add-numbers c = omega (arith, (c .before .before .before .before .before .before .before .before .before .pre), piece-end (c .before .before .before .before .before .before .before .before .before .args .word .now) (writtenOf (c .before .before .before .before .before .before .before .before .before .args .at) (c .before .before .before .before .before .before .before .before .before .args .out .now)) (c .before .before .before .before .put .ensures))
+add-numbers c =
+    let entry = c .before .before .before .before .before .before .before .before .before in
+    let put = c .before .before .before .before .put in
+    let word = length (entry .args .word .now) in
+    let count = length (entry .args .values .now) in
+    let inside = word-inside (entry .args .at) word count (put .ensures .1) (put .kept .1 .0) (entry .pre) in
+    omega (arith, inside)
 
 numbers-requires : tie.Need-numbers-requires
-numbers-requires c κs = omega (arith, (c .before .before .before .before .before .before .before .before .before .pre), piece-end (c .before .before .before .before .before .before .before .before .before .args .word .now) (writtenOf (c .before .before .before .before .before .before .before .before .before .args .at) (c .before .before .before .before .before .before .before .before .before .args .out .now)) (c .before .before .before .before .put .ensures), piece-long (c .before .before .before .before .before .before .before .before .before .args .word .now) (writtenOf (c .before .before .before .before .before .before .before .before .before .args .at) (c .before .before .before .before .before .before .before .before .before .args .out .now)) (c .before .before .before .before .put .ensures), length-set (c .before .before .before .before .put .last .1 .0) (c .before .before .before .before .put .result) (c .before .end-of .result))
+numbers-requires c κs =
+    let entry = c .before .before .before .before .before .before .before .before .before in
+    let put = c .before .before .before .before .put in
+    let word = length (entry .args .word .now) in
+    let count = length (entry .args .values .now) in
+    numbers-room (entry .args .at) word count (put .ensures .1) (put .kept .1 .0) (entry .pre)
+    (length-set (put .last .1 .0) (put .result) (c .before .end-of .result))
 
 same-length : tie.Need-same-length
-same-length c = piece-long (line (map decimal (c .before .before .before .before .before .before .before .before .before .before .before .before .args .values .now))) (writtenOf ((c .before .before .before .before .before .before .before .put .result) + 1) (set (c .before .before .before .before .before .before .before .put .last .1 .0) (c .before .before .before .before .before .before .before .put .result) (c .before .before .before .before .end-of .result))) (c .before .before .numbers .ensures .0) ∙ length-set (c .before .before .before .before .before .before .before .put .last .1 .0) (c .before .before .before .before .before .before .before .put .result) (c .before .before .before .before .end-of .result) ∙ piece-long (c .before .before .before .before .before .before .before .before .before .before .before .before .args .word .now) (writtenOf (c .before .before .before .before .before .before .before .before .before .before .before .before .args .at) (c .before .before .before .before .before .before .before .before .before .before .before .before .args .out .now)) (c .before .before .before .before .before .before .before .put .ensures)
+same-length c =
+    let put = c .before .before .before .before .before .before .before .put in
+    c .before .before .numbers .kept .1 .0 ∙ length-set (put .last .1 .0) (put .result) (c .before .before .before .before .end-of .result) ∙ put .kept .1 .0
 
 returns : tie.Need-returns
-returns c = (told-is (c .before .before .before .before .before .before .before .before .before .before .before .before .args .word .now) (c .before .before .before .before .before .before .before .before .before .before .before .before .args .values .now) (writtenOf (c .before .before .before .before .before .before .before .before .before .before .before .before .args .at) (c .before .before .before .before .before .before .before .before .before .before .before .before .args .out .now)) (c .before .before .before .before .before .before .before .put .ensures) ((c .before .before .numbers .ensures .0) ∙ ap (λ (x : ℕ). append (line (map decimal (c .before .before .before .before .before .before .before .before .before .before .before .before .args .values .now))) (writtenOf ((c .before .before .before .before .before .before .before .put .result) + 1) (set (c .before .before .before .before .before .before .before .put .last .1 .0) (c .before .before .before .before .before .before .before .put .result) x))) (c .before .before .before .before .end-of .ensures)), omega (arith, (c .before .before .numbers .ensures .1), piece-end (c .before .before .before .before .before .before .before .before .before .before .before .before .args .word .now) (writtenOf (c .before .before .before .before .before .before .before .before .before .before .before .before .args .at) (c .before .before .before .before .before .before .before .before .before .before .before .before .args .out .now)) (c .before .before .before .before .before .before .before .put .ensures)))
+returns c =
+    let entry = c .before .before .before .before .before .before .before .before .before .before .before .before in
+    let put = c .before .before .before .before .before .before .before .put in
+    let word = length (entry .args .word .now) in
+    let count = length (entry .args .values .now) in
+    let numbers = c .before .before .numbers in (
+      told-is (entry .args .word .now) (entry .args .values .now) (writtenOf (entry .args .at) (entry .args .out .now))
+          (put .ensures .0) (c .before .before .before .before .end-of .ensures) (numbers .ensures .0),
+      told-short (entry .args .at) word count (put .ensures .1) (put .kept .1 .0) (entry .pre) (numbers .ensures .1),
+    )
 
 pub told-spec : {M : Type 1} → statement M
 told-spec =

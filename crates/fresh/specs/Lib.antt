@@ -1,0 +1,2 @@
+-- A fresh cache: document 01, "Geometry and tables".
+pub mod Fresh

@@ -1,0 +1,84 @@
+-- Rows of tables, put one after another.
+use mathlib.Core.Path.{_≡_, refl, sym, ap, _∙_}
+use mathlib.Core.List.{List}
+use Prim.Native.Nat.{ℕ, _+_, _*_, _-_, _≤_, _<_}
+use native.Mathlib.Nat.{le-trans, le-of-eq, one-mul, add-mul, mul-le-mul-right}
+use native.Mathlib.Numerals.{add-one-le}
+use native.Mathlib.Omega.{arith}
+use lib.ListN.{length}
+use lib.Seq.{length-take-le}
+use Rattle.io.specs.Counts.{Counts}
+use Rattle.stepper.specs.Rows.{Rows}
+
+-- Fewer sets have their rows too.
+pub rows-below : {few sets ways tags valid dirty words : ℕ} → few ≤ sets → Rows sets ways tags valid dirty words
+    → Rows few ways tags valid dirty words
+rows-below {few} {sets} {ways} h r = record {
+  tags-long = le-trans (mul-le-mul-right ways h) (r .tags-long);
+  valid-long = le-trans h (r .valid-long);
+  dirty-long = le-trans h (r .dirty-long);
+  words-long = le-trans h (r .words-long);
+}
+
+-- The tags of the last set lie within the table.
+pub row-inside : (set : ℕ) {ways start tags valid dirty words : ℕ} → Rows (set + 1) ways tags valid dirty words → start ≡ set * ways
+    → start + ways ≤ tags
+row-inside set {ways} r e =
+    let more : (set + 1) * ways ≡ set * ways + ways = add-mul set 1 ways ∙ ap (λ (n : ℕ). set * ways + n) (one-mul ways) in
+    omega (arith, r .tags-long)
+
+-- Tables that are as long as before have the same rows.
+pub rows-kept : {sets ways t₀ v₀ d₀ w₀ t v d w : ℕ} → t ≡ t₀ → v ≡ v₀ → d ≡ d₀ → w ≡ w₀ → Rows sets ways t₀ v₀ d₀ w₀ → Rows sets ways t v d w
+rows-kept a b c d r = record {
+  tags-long = le-trans (r .tags-long) (le-of-eq (sym a));
+  valid-long = le-trans (r .valid-long) (le-of-eq (sym b));
+  dirty-long = le-trans (r .dirty-long) (le-of-eq (sym c));
+  words-long = le-trans (r .words-long) (le-of-eq (sym d));
+}
+
+-- The maps of domain d, two bytes each, among the first 64 bytes.
+pub hit-room : {d now long : ℕ} → d < 16 → now ≡ long → 64 ≤ long → 4 * d + 2 ≤ now
+hit-room h e l = omega arith
+
+pub fill-room : {d now long : ℕ} → d < 16 → now ≡ long → 64 ≤ long → 4 * d + 2 + 2 ≤ now
+fill-room h e l = omega arith
+
+-- Tag w of a row's tags.
+pub tag-room : (at : ℕ) {ways w now long : ℕ} → w < ways → now ≡ long → at + 8 * ways ≤ long → at + 8 * w + 8 ≤ now
+tag-room at h e l = omega arith
+
+-- A field of a row, which has 142 bytes at most.
+pub field-room : (at k n : ℕ) {long now : ℕ} → at + 142 ≤ long → now ≡ long → k + n ≤ 142 → at + k + n ≤ now
+field-room at k n h e l = omega arith
+
+pub tags-room : (at : ℕ) {ways long now : ℕ} → at + 142 ≤ long → ways ≤ 16 → now ≡ long → at + 14 + 8 * ways ≤ now
+tags-room at h w e = omega arith
+
+pub row-short : (at : ℕ) {ways r : ℕ} → r ≡ at + 14 + 8 * ways → ways ≤ 16 → r ≤ at + 142
+row-short at e w = omega arith
+
+-- Before the row of `set` is put: room for it.
+pub record Putting (to : ℕ) (out₀ : List ℕ) (at : ℕ) (out : List ℕ) (next set : ℕ) : Type 0 where
+  pub inside : set ≤ to
+  pub behind : next ≤ at + 142 * set
+  pub long : length out ≡ length out₀
+
+pub row-room : {to at next set : ℕ} {out₀ out : List ℕ} → Putting to out₀ at out next set → set < to → to ≤ 256 → at + 36352 ≤ length out₀
+    → next + 142 ≤ length out
+row-room p h f l = omega arith
+
+pub row-put : {to at next after set : ℕ} {out₀ out new : List ℕ} → Putting to out₀ at out next set → set < to → after ≤ next + 142
+    → length new ≡ length out → Putting to out₀ at new after (set + 1)
+row-put p h b l = record { inside = add-one-le h; behind = omega (arith, p .behind); long = l ∙ p .long }
+
+-- The bytes up to the last row lie within the output.
+pub rows-count : {to at next set : ℕ} {out₀ out : List ℕ} → Putting to out₀ at out next set → to ≤ 256 → at + 36352 ≤ length out₀
+    → Counts next out
+rows-count {next = next} {out = out} p f l =
+    let inside : next ≤ length out = omega arith in
+    (inside, sym (length-take-le next out inside))
+
+-- ---- the blocks, from 0 to the number of steps
+
+pub block-less : {last i : ℕ} → i ≤ last → last + 1 - (i + 1) < last + 1 - i
+block-less h = omega arith

@@ -1,0 +1,98 @@
+-- `trace::lines::said` meets its contract.
+use mathlib.Core.Logic.{inl, inr}
+use mathlib.Core.Path.{refl}
+use lib.Dec.{lit≤}
+use borrow.Author.Needs.{needs}
+use Rattle.trace.specs.Listing.{told}
+use Rattle.trace.proofs.LineLaws.{bare}
+use Rattle.trace.proofs.lines.said.Statement.{statement}
+use Rattle.trace.proofs.lines.said.Tie as tie
+
+enum-known-answer : tie.Need-enum-known-answer
+enum-known-answer c = search needs
+
+enum-known-answer-2 : tie.Need-enum-known-answer-2
+enum-known-answer-2 c = search needs
+
+enum-known-answer-3 : tie.Need-enum-known-answer-3
+enum-known-answer-3 c = search needs
+
+cast-t32 : tie.Need-cast-t32
+cast-t32 c = search needs
+
+enum-told : tie.Need-enum-told
+enum-told c = search needs
+
+enum-known-answer-4 : tie.Need-enum-known-answer-4
+enum-known-answer-4 c = search needs
+
+cast-t40 : tie.Need-cast-t40
+cast-t40 c = search needs
+
+enum-told-2 : tie.Need-enum-told-2
+enum-told-2 c = search needs
+
+enum-known-answer-5 : tie.Need-enum-known-answer-5
+enum-known-answer-5 c = search needs
+
+enum-known-answer-6 : tie.Need-enum-known-answer-6
+enum-known-answer-6 c = search needs
+
+returns : tie.Need-returns
+unfolding told
+returns c = record { is = rw (c .before .before .before .answer .given .1); inside = lit≤ tt; short = lit≤ tt; listed = lit≤ tt; few = lit≤ tt }
+
+returns-2 : tie.Need-returns-2
+unfolding told
+returns-2 c = record { is = rw (c .before .before .before .answer2 .given .1); inside = lit≤ tt; short = lit≤ tt; listed = lit≤ tt; few = lit≤ tt }
+
+returns-3 : tie.Need-returns-3
+unfolding told
+returns-3 c = record { is = rw (c .before .before .before .answer3 .given .1); inside = lit≤ tt; short = lit≤ tt; listed = lit≤ tt; few = lit≤ tt }
+
+returns-4 : tie.Need-returns-4
+unfolding told
+returns-4 c =
+    let is = bare (c .before .before .before .before .args .answer) 3 (c .before .before .before .match .keys4) (inl refl) in
+    record { is = rw is; inside = lit≤ tt; short = lit≤ tt; listed = lit≤ tt; few = lit≤ tt }
+
+returns-5 : tie.Need-returns-5
+unfolding told
+returns-5 c = record { is = rw (c .before .before .before .answer4 .given .1); inside = lit≤ tt; short = lit≤ tt; listed = lit≤ tt; few = lit≤ tt }
+
+returns-6 : tie.Need-returns-6
+unfolding told
+returns-6 c =
+    let is = bare (c .before .before .before .before .args .answer) 5 (c .before .before .before .match .keys6) (inr refl) in
+    record { is = rw is; inside = lit≤ tt; short = lit≤ tt; listed = lit≤ tt; few = lit≤ tt }
+
+returns-7 : tie.Need-returns-7
+unfolding told
+returns-7 c = record { is = rw (c .before .before .before .answer5 .given .1); inside = lit≤ tt; short = lit≤ tt; listed = lit≤ tt; few = lit≤ tt }
+
+returns-8 : tie.Need-returns-8
+unfolding told
+returns-8 c = record { is = rw (c .before .before .before .answer6 .given .1); inside = lit≤ tt; short = lit≤ tt; listed = lit≤ tt; few = lit≤ tt }
+
+pub said-spec : {M : Type 1} → statement M
+said-spec =
+    tie.close
+    (tie.spec
+    enum-known-answer
+    enum-known-answer-2
+    enum-known-answer-3
+    cast-t32
+    enum-told
+    enum-known-answer-4
+    cast-t40
+    enum-told-2
+    enum-known-answer-5
+    enum-known-answer-6
+    returns
+    returns-2
+    returns-3
+    returns-4
+    returns-5
+    returns-6
+    returns-7
+    returns-8)
