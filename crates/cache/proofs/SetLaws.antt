@@ -25,7 +25,8 @@ use Rattle.cache.proofs.PlaceLaws.{row-within}
 
 pub row-done : (W s start stop : ℕ) (f : Row → Effect) (tags valid dirty words : List ℕ) (d : Done) (ts : List ℕ) → start ≡ s * W → stop ≡ start + W
     → result d ts ≡ f (rowOf (take (stop - start) (drop start tags)) (record { valid = getD valid s 0; dirty = getD dirty s 0; word = getD words s 0 }))
-    → RowWork (d .answer) (tablesOf (putMid start (stop - start) tags ts) (set valid s (d .lines .valid)) (set dirty s (d .lines .dirty)) (set words s (d .lines .word)))
+    → RowWork (d .answer) (tablesOf (putMid start (stop - start) tags ts) (set valid s (d .lines .valid)) (set dirty s (d .lines .dirty))
+    (set words s (d .lines .word)))
     (onRow W s f (tablesOf tags valid dirty words))
 unfolding onRow rowAt putRow
 row-done W s start stop f tags valid dirty words d ts p q e =
@@ -139,11 +140,13 @@ module _ (g : Geometry) where
       word = getD-set-other (t .words) s u (r .word) 0 apart i;
     }
       where
-        tags : take (g .ways) (drop (u * g .ways) (take (s * g .ways) (t .tags) ++ (r .tags ++ drop (g .ways) (drop (s * g .ways) (t .tags))))) ≡ take (g .ways) (drop (u * g .ways) (t .tags))
+        tags : take (g .ways) (drop (u * g .ways) (take (s * g .ways) (t .tags) ++ (r .tags ++ drop (g .ways) (drop (s * g .ways) (t .tags)))))
+            ≡ take (g .ways) (drop (u * g .ways) (t .tags))
         tags =
             cases (ltb u s)
             (λ q. part-before (t .tags) (r .tags) (s * g .ways) (g .ways) room long (u * g .ways) (row-within u s (g .ways) (ltb-true u s q)))
-            (λ q. part-after (t .tags) (r .tags) (s * g .ways) (g .ways) room long (u * g .ways) (row-within s u (g .ways) (omega (arith, ltb-false u s q, apart))))
+            (λ q. part-after (t .tags) (r .tags) (s * g .ways) (g .ways) room long (u * g .ways)
+            (row-within s u (g .ways) (omega (arith, ltb-false u s q, apart))))
 
   -- ---- every set's row
 

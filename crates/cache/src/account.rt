@@ -148,8 +148,5 @@ pub fn put_back(mut domains: Domains, d: usize, used: Used) -> Stepped
     let answer = used.answer;
     let own = used.own;
     domains.records[d] = own;
-    Stepped {
-        answer,
-        domains,
-    }
+    Stepped { answer, domains }
 }

@@ -29,12 +29,10 @@ pub fn step(
     kind: u8,
     argument: u64,
 ) -> Stepped
-    ensures {
-        λ r.
+    ensures { λ r.
         ⌜ outcome r (tablesOf (now (tags .exit)) (now (valid .exit)) (now (dirty .exit)) (now (words .exit)))
         ≡ stepOf g domain kind argument
-        (record { tables = tablesOf (now (tags .entry)) (now (valid .entry)) (now (dirty .entry)) (now (words .entry)); domains = domains }) ⌝
-    }
+        (record { tables = tablesOf (now (tags .entry)) (now (valid .entry)) (now (dirty .entry)) (now (words .entry)); domains = domains }) ⌝ }
 {
     let number = verdict::sizes(g, tags.len(), valid.len(), dirty.len(), words.len());
     if number != 0 {
@@ -52,7 +50,17 @@ pub fn step(
         }
         Asked::Policy => {
             let policies = verdict::policies_of(domains);
-            let used = work::policy(g, tags, valid, dirty, words, own, policies, domain, argument);
+            let used = work::policy(
+                g,
+                tags,
+                valid,
+                dirty,
+                words,
+                own,
+                policies,
+                domain,
+                argument,
+            );
             account::put_back(domains, domain, used)
         }
         Asked::Unknown => account::refused(4, domains),

@@ -43,11 +43,9 @@ pub fn use_set(
     address: u64,
 ) -> Answer
     requires { ⌜ Shaped g (tablesOf (now tags) (now valid) (now dirty) (now words)) ⌝ }
-    ensures {
-        λ r.
+    ensures { λ r.
         ⌜ RowWork r (tablesOf (now (tags .exit)) (now (valid .exit)) (now (dirty .exit)) (now (words .exit)))
-        (workAt g flush store maps address (tablesOf (now (tags .entry)) (now (valid .entry)) (now (dirty .entry)) (now (words .entry)))) ⌝
-    }
+        (workAt g flush store maps address (tablesOf (now (tags .entry)) (now (valid .entry)) (now (dirty .entry)) (now (words .entry)))) ⌝ }
 {
     let found = place::place_of(g, address);
     let set = found.set;
@@ -105,11 +103,9 @@ fn sweep_set(
 ) -> Drops
     requires { ⌜ Shaped g (tablesOf (now tags) (now valid) (now dirty) (now words)) ⌝ }
     requires { ⌜ set < g .sets ⌝ }
-    ensures {
-        λ r.
+    ensures { λ r.
         ⌜ Swept g sweep set (tablesOf (now (tags .entry)) (now (valid .entry)) (now (dirty .entry)) (now (words .entry)))
-        (tablesOf (now (tags .exit)) (now (valid .exit)) (now (dirty .exit)) (now (words .exit))) r ⌝
-    }
+        (tablesOf (now (tags .exit)) (now (valid .exit)) (now (dirty .exit)) (now (words .exit))) r ⌝ }
 {
     let span = place::span_of(g, set);
     let start = span.start;
@@ -138,11 +134,9 @@ pub fn sweep_sets(
     sweep: Sweep,
 ) -> Drops
     requires { ⌜ Shaped g (tablesOf (now tags) (now valid) (now dirty) (now words)) ⌝ }
-    ensures {
-        λ r.
+    ensures { λ r.
         ⌜ AllSwept g sweep (g .sets) (tablesOf (now (tags .entry)) (now (valid .entry)) (now (dirty .entry)) (now (words .entry)))
-        (tablesOf (now (tags .exit)) (now (valid .exit)) (now (dirty .exit)) (now (words .exit))) (r .dropped) (r .dirty) ⌝
-    }
+        (tablesOf (now (tags .exit)) (now (valid .exit)) (now (dirty .exit)) (now (words .exit))) (r .dropped) (r .dirty) ⌝ }
 {
     let sets = g.sets;
     let mut dropped = 0;

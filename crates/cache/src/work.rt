@@ -23,11 +23,9 @@ pub fn line(
     address: u64,
 ) -> Used
     requires { ⌜ Shaped g (tablesOf (now tags) (now valid) (now dirty) (now words)) ⌝ }
-    ensures {
-        λ r.
+    ensures { λ r.
         ⌜ deedOf r (tablesOf (now (tags .exit)) (now (valid .exit)) (now (dirty .exit)) (now (words .exit)))
-        ≡ lineDeed g own flush store address (tablesOf (now (tags .entry)) (now (valid .entry)) (now (dirty .entry)) (now (words .entry))) ⌝
-    }
+        ≡ lineDeed g own flush store address (tablesOf (now (tags .entry)) (now (valid .entry)) (now (dirty .entry)) (now (words .entry))) ⌝ }
 {
     let stored = Maps {
         hit: own.hit,
@@ -54,12 +52,10 @@ pub fn policy(
     argument: u64,
 ) -> Used
     requires { ⌜ Shaped g (tablesOf (now tags) (now valid) (now dirty) (now words)) ⌝ }
-    ensures {
-        λ r.
+    ensures { λ r.
         ⌜ deedOf r (tablesOf (now (tags .exit)) (now (valid .exit)) (now (dirty .exit)) (now (words .exit)))
         ≡ policyDeed g own policies domain argument
-        (tablesOf (now (tags .entry)) (now (valid .entry)) (now (dirty .entry)) (now (words .entry))) ⌝
-    }
+        (tablesOf (now (tags .entry)) (now (valid .entry)) (now (dirty .entry)) (now (words .entry))) ⌝ }
 {
     let number = verdict::policy_refusal(g, policies, domain, argument);
     if number != 0 {

@@ -39,9 +39,12 @@ stepsA =
 -- policy 0 0, policy 0 0, fill 0, fill 1, fill 2, evict 0 0 1, flush 1 0, refused 6, hit 0; "domain 0 1 3 1 1 1", "domain 1 0 1 0 0 0"
 pub record CaseA : Type 0 where
   pub answers : answersOf geometryA stepsA (fresh geometryA)
-      ≡ (6 ∷ 0 ∷ 0 ∷ []) ∷ (6 ∷ 0 ∷ 0 ∷ []) ∷ (1 ∷ 0 ∷ []) ∷ (1 ∷ 1 ∷ []) ∷ (1 ∷ 2 ∷ []) ∷ (2 ∷ 0 ∷ 0 ∷ 1 ∷ []) ∷ (4 ∷ 1 ∷ 0 ∷ []) ∷ (7 ∷ 6 ∷ []) ∷ (0 ∷ 0 ∷ []) ∷ []
-  pub counts-0 : domainOf (finally geometryA stepsA (fresh geometryA) .domains) 0 .counts ≡ record { hits = 1; misses = 3; evicted = 1; written = 1; flushed = 1 }
-  pub counts-1 : domainOf (finally geometryA stepsA (fresh geometryA) .domains) 1 .counts ≡ record { hits = 0; misses = 1; evicted = 0; written = 0; flushed = 0 }
+      ≡ (6 ∷ 0 ∷ 0 ∷ []) ∷ (6 ∷ 0 ∷ 0 ∷ []) ∷ (1 ∷ 0 ∷ []) ∷ (1 ∷ 1 ∷ []) ∷ (1 ∷ 2 ∷ []) ∷ (2 ∷ 0 ∷ 0 ∷ 1 ∷ []) ∷ (4 ∷ 1 ∷ 0 ∷ []) ∷ (7 ∷ 6 ∷ [])
+      ∷ (0 ∷ 0 ∷ []) ∷ []
+  pub counts-0 : domainOf (finally geometryA stepsA (fresh geometryA) .domains) 0 .counts
+      ≡ record { hits = 1; misses = 3; evicted = 1; written = 1; flushed = 1 }
+  pub counts-1 : domainOf (finally geometryA stepsA (fresh geometryA) .domains) 1 .counts
+      ≡ record { hits = 0; misses = 1; evicted = 0; written = 0; flushed = 0 }
 
 -- for 8 ways, F: "maps 5 and 10 share free node 1: refused 9"; G: "maps 3 and 12 are accepted"
 abbrev pub eightWays : Geometry
@@ -52,9 +55,17 @@ pub record CaseFG : Type 0 where
   pub g : answersOf eightWays (does 0 16 (both 3) ∷ does 1 16 (both 12) ∷ []) (fresh eightWays) ≡ (6 ∷ 0 ∷ 0 ∷ []) ∷ (6 ∷ 0 ∷ 0 ∷ []) ∷ []
 
 pub case-a : CaseA
-unfolding answersOf finally step decided stepBy changePolicy newDomain useLine rowEffect onSet refusal refusalBy policyRefusal useRefusal sharesNode sharesWay badArgument newMaps kindOf counted isFull policies putDomain domainOf total eachSet putRow rowAt sized tagOf setOf within isPower freshTables freshDomains fresh isWays inLimits Row.asRead Row.matches Row.isHit Row.hitWay Row.hitAt Row.filled Row.vacant Row.fillAt Row.evictAt Row.accessBy Row.access Row.flushAt Row.flush Row.moved Row.without Row.wiped Row.dropped Row.droppedDirty Row.cleaned bit word any lowest count put reaches xor Tree.passes Tree.under Tree.holds Tree.free Tree.forcedRight Tree.walk Tree.walked Tree.victim Tree.touch Tree.changes Tree.reset Tree.shares
+unfolding answersOf finally step decided stepBy changePolicy newDomain useLine rowEffect onSet refusal refusalBy policyRefusal useRefusal sharesNode
+    sharesWay badArgument newMaps kindOf counted isFull policies putDomain domainOf total eachSet putRow rowAt sized tagOf setOf within isPower freshTables
+    freshDomains fresh isWays inLimits Row.asRead Row.matches Row.isHit Row.hitWay Row.hitAt Row.filled Row.vacant Row.fillAt Row.evictAt Row.accessBy
+    Row.access Row.flushAt Row.flush Row.moved Row.without Row.wiped Row.dropped Row.droppedDirty Row.cleaned bit word any lowest count put reaches xor
+    Tree.passes Tree.under Tree.holds Tree.free Tree.forcedRight Tree.walk Tree.walked Tree.victim Tree.touch Tree.changes Tree.reset Tree.shares
 case-a = record { answers = refl; counts-0 = refl; counts-1 = refl }
 
 pub case-f-g : CaseFG
-unfolding answersOf finally step decided stepBy changePolicy newDomain useLine rowEffect onSet refusal refusalBy policyRefusal useRefusal sharesNode sharesWay badArgument newMaps kindOf counted isFull policies putDomain domainOf total eachSet putRow rowAt sized tagOf setOf within isPower freshTables freshDomains fresh isWays inLimits Row.asRead Row.matches Row.isHit Row.hitWay Row.hitAt Row.filled Row.vacant Row.fillAt Row.evictAt Row.accessBy Row.access Row.flushAt Row.flush Row.moved Row.without Row.wiped Row.dropped Row.droppedDirty Row.cleaned bit word any lowest count put reaches xor Tree.passes Tree.under Tree.holds Tree.free Tree.forcedRight Tree.walk Tree.walked Tree.victim Tree.touch Tree.changes Tree.reset Tree.shares
+unfolding answersOf finally step decided stepBy changePolicy newDomain useLine rowEffect onSet refusal refusalBy policyRefusal useRefusal sharesNode
+    sharesWay badArgument newMaps kindOf counted isFull policies putDomain domainOf total eachSet putRow rowAt sized tagOf setOf within isPower freshTables
+    freshDomains fresh isWays inLimits Row.asRead Row.matches Row.isHit Row.hitWay Row.hitAt Row.filled Row.vacant Row.fillAt Row.evictAt Row.accessBy
+    Row.access Row.flushAt Row.flush Row.moved Row.without Row.wiped Row.dropped Row.droppedDirty Row.cleaned bit word any lowest count put reaches xor
+    Tree.passes Tree.under Tree.holds Tree.free Tree.forcedRight Tree.walk Tree.walked Tree.victim Tree.touch Tree.changes Tree.reset Tree.shares
 case-f-g = record { f = refl; g = refl }

@@ -17,11 +17,9 @@ pub fn fresh_tables(
     dirty: &mut [u16],
     words: &mut [u64],
 ) -> usize
-    ensures {
-        λ r.
+    ensures { λ r.
         ⌜ madeOf r (tablesOf (now (tags .exit)) (now (valid .exit)) (now (dirty .exit)) (now (words .exit)))
-        ≡ freshOf g (tablesOf (now (tags .entry)) (now (valid .entry)) (now (dirty .entry)) (now (words .entry))) ⌝
-    }
+        ≡ freshOf g (tablesOf (now (tags .entry)) (now (valid .entry)) (now (dirty .entry)) (now (words .entry))) ⌝ }
 {
     let number = verdict::sizes(g, tags.len(), valid.len(), dirty.len(), words.len());
     if number != 0 {

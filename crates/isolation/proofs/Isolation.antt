@@ -77,7 +77,8 @@ module _ (g : Geometry) (limits : within g ≡ true) (d : ℕ) (low : d < 16) wh
     policy-same = λ e. refl;
     separate = record {
       ways-apart = λ e f he hf n w. rw (no-hit e w);
-      nodes-apart = λ e f he hf n. rule g l .shares-empty (policies (g .ways) (fresh g .domains) e .fill) (policies (g .ways) (fresh g .domains) f .fill) (no-fill e);
+      nodes-apart = λ e f he hf n. rule g l .shares-empty (policies (g .ways) (fresh g .domains) e .fill) (policies (g .ways) (fresh g .domains) f .fill)
+          (no-fill e);
     };
     domain-same = refl;
     alike = λ s h. record { lines = λ w k u. same-line (rowAt (g .ways) s (fresh g .tables)) w; cells = λ x u. refl };
@@ -92,7 +93,8 @@ module _ (g : Geometry) (limits : within g ≡ true) (d : ℕ) (low : d < 16) wh
       cases (keeps d c)
       (λ t. rw t
       (cases (belongs d c)
-      (λ u. rw u (ap₂ _∷_ (output-consistent g limits d low a b rel c u) (answers-from cs (stepOn g c a .state) (stepOn g c b .state) (step-consistent g limits d low a b rel c t))))
+      (λ u. rw u (ap₂ _∷_ (output-consistent g limits d low a b rel c u)
+      (answers-from cs (stepOn g c a .state) (stepOn g c b .state) (step-consistent g limits d low a b rel c t))))
       (λ u. rw u (answers-from cs (stepOn g c a .state) (stepOn g c b .state) (step-consistent g limits d low a b rel c t)))))
       (λ t. rw (t, struck d c t .other) (answers-from cs (stepOn g c a .state) b (locally-respects g limits d low a b rel c t)))
 
@@ -106,9 +108,11 @@ module _ (g : Geometry) (limits : within g ≡ true) (d : ℕ) (low : d < 16) wh
       (λ u. rw u
       (cases (belongs d c)
       (λ v. rw v (verdicts-from cs (stepOn g c a .state) (stepOn g c b .state) (step-consistent g limits d low a b rel c t)))
-      (λ v. rw v (ap₂ _∷_ (verdict-consistent g limits d low a b rel c u) (verdicts-from cs (stepOn g c a .state) (stepOn g c b .state) (step-consistent g limits d low a b rel c t))))))
+      (λ v. rw v (ap₂ _∷_ (verdict-consistent g limits d low a b rel c u)
+      (verdicts-from cs (stepOn g c a .state) (stepOn g c b .state) (step-consistent g limits d low a b rel c t))))))
       (λ u. rw u (verdicts-from cs (stepOn g c a .state) (stepOn g c b .state) (step-consistent g limits d low a b rel c t)))))
-      (λ t. rw (t, ne-eqb (c .kind) 16 (λ e. omega (arith, struck d c t .kind, e))) (verdicts-from cs (stepOn g c a .state) b (locally-respects g limits d low a b rel c t)))
+      (λ t. rw (t, ne-eqb (c .kind) 16 (λ e. omega (arith, struck d c t .kind, e)))
+      (verdicts-from cs (stepOn g c a .state) b (locally-respects g limits d low a b rel c t)))
 
   finally-from : (cs : List Command) (a b : State) → Related g d a b → Related g d (finally g cs a) (finally g (purge d cs) b)
   unfolding finally purge
@@ -122,7 +126,8 @@ module _ (g : Geometry) (limits : within g ≡ true) (d : ℕ) (low : d < 16) wh
   same-to : (a b : State) → Related g d a b → SameTo g d a b
   same-to a b rel = record {
     domain = rel .domain-same;
-    sets = λ s h. view-same g l d low (policies (g .ways) (a .domains)) (policy-cut (g .ways) (a .domains)) (rel .separate) (rowAt (g .ways) s (a .tables)) (rowAt (g .ways) s (b .tables)) (rel .alike s h);
+    sets = λ s h. view-same g l d low (policies (g .ways) (a .domains)) (policy-cut (g .ways) (a .domains)) (rel .separate) (rowAt (g .ways) s (a .tables))
+        (rowAt (g .ways) s (b .tables)) (rel .alike s h);
   }
 
 -- Isolation. For every geometry within the limits, every domain and every list of steps whatever they name and ask for: strike the
@@ -131,5 +136,6 @@ pub isolation : (g : Geometry) → within g ≡ true → (d : ℕ) → d < 16 �
 isolation g limits d low cs = record {
   answers-same = answers-from g limits d low cs (fresh g) (fresh g) (fresh-related g limits d low);
   verdicts-same = verdicts-from g limits d low cs (fresh g) (fresh g) (fresh-related g limits d low);
-  finally-same = same-to g limits d low (finally g cs (fresh g)) (finally g (purge d cs) (fresh g)) (finally-from g limits d low cs (fresh g) (fresh g) (fresh-related g limits d low));
+  finally-same = same-to g limits d low (finally g cs (fresh g)) (finally g (purge d cs) (fresh g))
+      (finally-from g limits d low cs (fresh g) (fresh g) (fresh-related g limits d low));
 }

@@ -37,7 +37,8 @@ policy-cut W ds e = cut-read W (record { hit = domainOf ds e .hit; fill = domain
 
 -- ---- the state after a domain's work on one set
 
-module _ (g : Geometry) (s : State) (whole : Whole g s) (e : ℕ) (k : e < 16) (set : ℕ) (h : set < g .sets) (x : Effect) (long : length (x .row .tags) ≡ g .ways) where
+module _ (g : Geometry) (s : State) (whole : Whole g s) (e : ℕ) (k : e < 16) (set : ℕ) (h : set < g .sets) (x : Effect)
+    (long : length (x .row .tags) ≡ g .ways) where
   abbrev after : State
   after = onSet g e set x s .state
 
@@ -45,16 +46,36 @@ module _ (g : Geometry) (s : State) (whole : Whole g s) (e : ℕ) (k : e < 16) (
   unfolding onSet
   line-whole = record {
     shaped = put-shaped g (s .tables) (x .row) (whole .shaped) set h long;
-    sixteen = DomainLaws.put-sixteen (s .domains) e (record { hit = domainOf (s .domains) e .hit; fill = domainOf (s .domains) e .fill; counts = counted (x .answer) (domainOf (s .domains) e .counts) }) (whole .sixteen);
+    sixteen = DomainLaws.put-sixteen (s .domains) e (record {
+      hit = domainOf (s .domains) e .hit;
+      fill = domainOf (s .domains) e .fill;
+      counts = counted
+          (x .answer) (domainOf (s .domains) e .counts);
+    }) (whole .sixteen);
   }
 
-  line-domain : domainOf (onSet g e set x s .state .domains) e ≡ record { hit = domainOf (s .domains) e .hit; fill = domainOf (s .domains) e .fill; counts = counted (x .answer) (domainOf (s .domains) e .counts) }
+  line-domain : domainOf (onSet g e set x s .state .domains) e ≡ record {
+    hit = domainOf (s .domains) e .hit;
+    fill = domainOf
+        (s .domains) e .fill;
+    counts = counted (x .answer) (domainOf (s .domains) e .counts);
+  }
   unfolding onSet
-  line-domain = DomainLaws.put-same (s .domains) e (record { hit = domainOf (s .domains) e .hit; fill = domainOf (s .domains) e .fill; counts = counted (x .answer) (domainOf (s .domains) e .counts) }) (whole .sixteen) k
+  line-domain = DomainLaws.put-same (s .domains) e (record {
+    hit = domainOf (s .domains) e .hit;
+    fill = domainOf (s .domains) e .fill;
+    counts = counted
+        (x .answer) (domainOf (s .domains) e .counts);
+  }) (whole .sixteen) k
 
   line-domain-other : (f : ℕ) → (f ≡ e → ⊥) → domainOf (onSet g e set x s .state .domains) f ≡ domainOf (s .domains) f
   unfolding onSet
-  line-domain-other f n = DomainLaws.put-other (s .domains) e (record { hit = domainOf (s .domains) e .hit; fill = domainOf (s .domains) e .fill; counts = counted (x .answer) (domainOf (s .domains) e .counts) }) f n
+  line-domain-other f n = DomainLaws.put-other (s .domains) e (record {
+    hit = domainOf (s .domains) e .hit;
+    fill = domainOf
+        (s .domains) e .fill;
+    counts = counted (x .answer) (domainOf (s .domains) e .counts);
+  }) f n
 
   -- the policies stay
   line-policy : (f : ℕ) → policies (g .ways) (onSet g e set x s .state .domains) f ≡ policies (g .ways) (s .domains) f
@@ -105,13 +126,17 @@ module _ (g : Geometry) (l : Limited g) (d : ℕ) (low : d < 16) (flushes store 
     where
       pick : (f : Bool)
           → (lineWork f (ruleOf (g .rule) (g .ways)) store (policy d) tag r .answer ≡ lineWork f (ruleOf (g .rule) (g .ways)) store (policy d) tag q .answer)
-          × Alike g d policy (lineWork f (ruleOf (g .rule) (g .ways)) store (policy d) tag r .row) (lineWork f (ruleOf (g .rule) (g .ways)) store (policy d) tag q .row)
+          × Alike g d policy (lineWork f (ruleOf (g .rule) (g .ways)) store (policy d) tag r .row)
+          (lineWork f (ruleOf (g .rule) (g .ways)) store (policy d) tag q .row)
       pick true = own-flush g l d low policy (policy-cut (g .ways) (a .domains)) (rel .separate) r q lr lq x tag
       pick false = own-access g l d low policy (policy-cut (g .ways) (a .domains)) (rel .separate) r q lr lq x tag store
 
-  own-pair : (work (policy d) (tagOf g arg) (rowAt (g .ways) (setOf g arg) (a .tables)) .answer ≡ work (policy d) (tagOf g arg) (rowAt (g .ways) (setOf g arg) (b .tables)) .answer)
-      × Alike g d policy (work (policy d) (tagOf g arg) (rowAt (g .ways) (setOf g arg) (a .tables)) .row) (work (policy d) (tagOf g arg) (rowAt (g .ways) (setOf g arg) (b .tables)) .row)
-  own-pair = own-row (rowAt (g .ways) (setOf g arg) (a .tables)) (rowAt (g .ways) (setOf g arg) (b .tables)) (long-a (setOf g arg) inside) (long-b (setOf g arg) inside) (rel .alike (setOf g arg) inside) (tagOf g arg)
+  own-pair : (work (policy d) (tagOf g arg) (rowAt (g .ways) (setOf g arg) (a .tables)) .answer
+      ≡ work (policy d) (tagOf g arg) (rowAt (g .ways) (setOf g arg) (b .tables)) .answer)
+      × Alike g d policy (work (policy d) (tagOf g arg) (rowAt (g .ways) (setOf g arg) (a .tables)) .row)
+      (work (policy d) (tagOf g arg) (rowAt (g .ways) (setOf g arg) (b .tables)) .row)
+  own-pair = own-row (rowAt (g .ways) (setOf g arg) (a .tables)) (rowAt (g .ways) (setOf g arg) (b .tables)) (long-a (setOf g arg) inside)
+      (long-b (setOf g arg) inside) (rel .alike (setOf g arg) inside) (tagOf g arg)
 
   -- two states whose sets are alike and whose policies are those of a, with one set worked on
   module _ (e : ℕ) (k : e < 16) (x : Effect) (long-x : length (x .row .tags) ≡ g .ways) where
@@ -143,8 +168,15 @@ module _ (g : Geometry) (l : Limited g) (d : ℕ) (low : d < 16) (flushes store 
         ∙ sym (line-domain g b (rel .whole-b) d low (setOf g arg) inside y ly);
     alike = λ s h. alike-stays d low x lx
         (cases (eqb s (setOf g arg))
-        (λ t. rw (eqb-true s (setOf g arg) t, line-row g a (rel .whole-a) d low (setOf g arg) inside x lx, line-row g b (rel .whole-b) d low (setOf g arg) inside y ly) z)
-        (λ t. rw (line-row-other g a (rel .whole-a) d low (setOf g arg) inside x lx s (eqb-false s (setOf g arg) t), line-row-other g b (rel .whole-b) d low (setOf g arg) inside y ly s (eqb-false s (setOf g arg) t)) (rel .alike s h)));
+        (λ t. rw (
+          eqb-true s (setOf g arg) t,
+          line-row g a (rel .whole-a) d low (setOf g arg) inside x lx,
+          line-row g b (rel .whole-b) d low (setOf g arg) inside y ly,
+        ) z)
+        (λ t. rw (
+          line-row-other g a (rel .whole-a) d low (setOf g arg) inside x lx s (eqb-false s (setOf g arg) t),
+          line-row-other g b (rel .whole-b) d low (setOf g arg) inside y ly s (eqb-false s (setOf g arg) t),
+        ) (rel .alike s h)));
   }
     where
       domain-of : Domain → Answer → Domain
@@ -156,9 +188,12 @@ module _ (g : Geometry) (l : Limited g) (d : ℕ) (low : d < 16) (flushes store 
   own-line =
       rw (← (rel .policy-same d)) (
         ap answerOf (own-pair .0),
-        own-on (work (policy d) (tagOf g arg) (rowAt (g .ways) (setOf g arg) (a .tables))) (work (policy d) (tagOf g arg) (rowAt (g .ways) (setOf g arg) (b .tables)))
-            (work-long flushes store (ruleOf (g .rule) (g .ways)) (policy d) (tagOf g arg) (rowAt (g .ways) (setOf g arg) (a .tables)) ∙ long-a (setOf g arg) inside)
-            (work-long flushes store (ruleOf (g .rule) (g .ways)) (policy d) (tagOf g arg) (rowAt (g .ways) (setOf g arg) (b .tables)) ∙ long-b (setOf g arg) inside)
+        own-on (work (policy d) (tagOf g arg) (rowAt (g .ways) (setOf g arg) (a .tables)))
+            (work (policy d) (tagOf g arg) (rowAt (g .ways) (setOf g arg) (b .tables)))
+            (work-long flushes store (ruleOf (g .rule) (g .ways)) (policy d) (tagOf g arg) (rowAt (g .ways) (setOf g arg) (a .tables))
+            ∙ long-a (setOf g arg) inside)
+            (work-long flushes store (ruleOf (g .rule) (g .ways)) (policy d) (tagOf g arg) (rowAt (g .ways) (setOf g arg) (b .tables))
+            ∙ long-b (setOf g arg) inside)
             (own-pair .0) (own-pair .1),
       )
 
@@ -172,7 +207,8 @@ module _ (g : Geometry) (l : Limited g) (d : ℕ) (low : d < 16) (flushes store 
       pick true = other-flush g l d low policy (policy-cut (g .ways) (a .domains)) (rel .separate) r q lr lq x tag e k n
       pick false = other-access g l d low policy (policy-cut (g .ways) (a .domains)) (rel .separate) r q lr lq x tag e k n store
 
-  other-on : (e : ℕ) (k : e < 16) → (e ≡ d → ⊥) → (x : Effect) → length (x .row .tags) ≡ g .ways → Alike g d policy (x .row) (rowAt (g .ways) (setOf g arg) (b .tables))
+  other-on : (e : ℕ) (k : e < 16) → (e ≡ d → ⊥) → (x : Effect) → length (x .row .tags) ≡ g .ways
+      → Alike g d policy (x .row) (rowAt (g .ways) (setOf g arg) (b .tables))
       → Related g d (onSet g e (setOf g arg) x a .state) b
   other-on e k n x lx z = record {
     whole-a = line-whole g a (rel .whole-a) e k (setOf g arg) inside x lx;
@@ -192,4 +228,5 @@ module _ (g : Geometry) (l : Limited g) (d : ℕ) (low : d < 16) (flushes store 
   other-line e k n =
       other-on e k n (work (policy e) (tagOf g arg) (rowAt (g .ways) (setOf g arg) (a .tables)))
       (work-long flushes store (ruleOf (g .rule) (g .ways)) (policy e) (tagOf g arg) (rowAt (g .ways) (setOf g arg) (a .tables)) ∙ long-a (setOf g arg) inside)
-      (other-row e k n (rowAt (g .ways) (setOf g arg) (a .tables)) (rowAt (g .ways) (setOf g arg) (b .tables)) (long-a (setOf g arg) inside) (long-b (setOf g arg) inside) (rel .alike (setOf g arg) inside) (tagOf g arg))
+      (other-row e k n (rowAt (g .ways) (setOf g arg) (a .tables)) (rowAt (g .ways) (setOf g arg) (b .tables)) (long-a (setOf g arg) inside)
+      (long-b (setOf g arg) inside) (rel .alike (setOf g arg) inside) (tagOf g arg))

@@ -108,7 +108,8 @@ module _ (g : Geometry) (l : Limited g) (d : ℕ) (low : d < 16) (e : ℕ) (k : 
     changed-whole : Whole g (changePolicy g e arg s .state)
     unfolding changePolicy
     changed-whole = record {
-      shaped = each-shaped g (cleaned R (policies W (s .domains) e) next) (clean-long R (policies W (s .domains) e) next) (s .tables) (whole .shaped) (g .sets) (omega arith);
+      shaped = each-shaped g (cleaned R (policies W (s .domains) e) next) (clean-long R (policies W (s .domains) e) next) (s .tables) (whole .shaped)
+          (g .sets) (omega arith);
       sixteen = DomainLaws.put-sixteen (s .domains) e (newDomain arg (domainOf (s .domains) e)) (whole .sixteen);
     }
 
@@ -131,7 +132,8 @@ module _ (g : Geometry) (l : Limited g) (d : ℕ) (low : d < 16) (e : ℕ) (k : 
     changed-row : (i : ℕ) → i < g .sets → rowAt (g .ways) i (changePolicy g e arg s .state .tables)
         ≡ cleaned R (policies (g .ways) (s .domains) e) (asRead (g .ways) (newMaps arg)) (rowAt (g .ways) i (s .tables))
     unfolding changePolicy
-    changed-row i h = each-row g (cleaned R (policies W (s .domains) e) next) (clean-long R (policies W (s .domains) e) next) (s .tables) (whole .shaped) (g .sets) (omega arith) i h
+    changed-row i h = each-row g (cleaned R (policies W (s .domains) e) next) (clean-long R (policies W (s .domains) e) next) (s .tables) (whole .shaped)
+        (g .sets) (omega arith) i h
 
   -- ---- the domains stay separate
 
@@ -150,10 +152,12 @@ module _ (g : Geometry) (l : Limited g) (d : ℕ) (low : d < 16) (e : ℕ) (k : 
           (λ u. let same : j ≡ e = eqb-true j e u in
           rw (same, changed-policy a (rel .whole-a), changed-policy-other a (rel .whole-a) i (eqb-false i e t))
           (and-comm (bit (policy i .hit) w) (bit (next .hit) w) ∙ new-apart g l policy (policy-cut W (a .domains)) e arg lets i hi (eqb-false i e t) w))
-          (λ u. rw (changed-policy-other a (rel .whole-a) i (eqb-false i e t), changed-policy-other a (rel .whole-a) j (eqb-false j e u)) (rel .separate .ways-apart i j hi hj n w)))
+          (λ u. rw (changed-policy-other a (rel .whole-a) i (eqb-false i e t), changed-policy-other a (rel .whole-a) j (eqb-false j e u))
+          (rel .separate .ways-apart i j hi hj n w)))
 
       nodes : (i j : ℕ) → i < 16 → j < 16 → (i ≡ j → ⊥)
-          → R .shares (policies (g .ways) (changePolicy g e arg a .state .domains) i .fill) (policies (g .ways) (changePolicy g e arg a .state .domains) j .fill) ≡ false
+          → R .shares (policies (g .ways) (changePolicy g e arg a .state .domains) i .fill)
+          (policies (g .ways) (changePolicy g e arg a .state .domains) j .fill) ≡ false
       nodes i j hi hj n =
           cases (eqb i e)
           (λ t. let same : i ≡ e = eqb-true i e t in
@@ -164,7 +168,8 @@ module _ (g : Geometry) (l : Limited g) (d : ℕ) (low : d < 16) (e : ℕ) (k : 
           (λ u. let same : j ≡ e = eqb-true j e u in
           rw (same, changed-policy a (rel .whole-a), changed-policy-other a (rel .whole-a) i (eqb-false i e t))
           (rule g l .shares-sym (policy i .fill) (next .fill) ∙ new-nodes g l policy (policy-cut W (a .domains)) e arg lets i hi (eqb-false i e t)))
-          (λ u. rw (changed-policy-other a (rel .whole-a) i (eqb-false i e t), changed-policy-other a (rel .whole-a) j (eqb-false j e u)) (rel .separate .nodes-apart i j hi hj n)))
+          (λ u. rw (changed-policy-other a (rel .whole-a) i (eqb-false i e t), changed-policy-other a (rel .whole-a) j (eqb-false j e u))
+          (rel .separate .nodes-apart i j hi hj n)))
 
   -- ---- the relation is kept
 
@@ -179,7 +184,8 @@ module _ (g : Geometry) (l : Limited g) (d : ℕ) (low : d < 16) (e : ℕ) (k : 
     separate = separate-after;
     domain-same =
         cases (eqb d e)
-        (λ t. subst (λ (i : ℕ). domainOf (changePolicy g e arg a .state .domains) i ≡ domainOf (changePolicy g e arg b .state .domains) i) (sym (eqb-true d e t))
+        (λ t. subst (λ (i : ℕ). domainOf (changePolicy g e arg a .state .domains) i ≡ domainOf (changePolicy g e arg b .state .domains) i)
+        (sym (eqb-true d e t))
         (changed-domain a (rel .whole-a)
         ∙ ap (newDomain arg) (subst (λ (i : ℕ). domainOf (a .domains) i ≡ domainOf (b .domains) i) (eqb-true d e t) (rel .domain-same))
         ∙ sym (changed-domain b (rel .whole-b))))

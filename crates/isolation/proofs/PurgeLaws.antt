@@ -130,8 +130,10 @@ module _ {d : ℕ} {codes arguments outCodes outArguments newCodes newArguments 
     is = is-next e ∙ sym (append-assoc (t .kept) (this ∷ []) rest);
     counted = rw (t .counted, length-append (t .kept) (this ∷ []));
     behind = omega (arith, t .behind);
-    codes-are = rw (t .counted) (store codeOf this (t .kept) outCodes newCodes (getD codes i 0) (code-of-command (getD codes i 0) (getD arguments i 0)) (rw (t .codes-fit) room) (t .codes-are));
-    arguments-are = rw (t .counted) (store argumentOf this (t .kept) outArguments newArguments (getD arguments i 0) refl (rw (t .arguments-fit) room) (t .arguments-are));
+    codes-are = rw (t .counted) (store codeOf this (t .kept) outCodes newCodes (getD codes i 0) (code-of-command (getD codes i 0) (getD arguments i 0))
+        (rw (t .codes-fit) room) (t .codes-are));
+    arguments-are = rw (t .counted) (store argumentOf this (t .kept) outArguments newArguments (getD arguments i 0) refl (rw (t .arguments-fit) room)
+        (t .arguments-are));
   }
     where
       room : length (t .kept) < length codes
@@ -169,7 +171,11 @@ module _ {d : ℕ} {codes arguments outCodes outArguments newCodes newArguments 
       → takenOf (record { number = 0; count = count }) newCodes newArguments ≡ purgeOf d codes arguments outCodes outArguments
   unfolding purgeOf purge commandsOf
   end t h =
-      rw (eq-eqb (length arguments) (length codes) (t .same), eq-eqb (length outCodes) (length codes) (t .codes-fit), eq-eqb (length outArguments) (length codes) (t .arguments-fit))
+      rw (
+        eq-eqb (length arguments) (length codes) (t .same),
+        eq-eqb (length outCodes) (length codes) (t .codes-fit),
+        eq-eqb (length outArguments) (length codes) (t .arguments-fit),
+      )
       (rw (all, t .counted, t .codes-are, t .arguments-are))
     where
       all : purge d (commandsOf codes arguments) ≡ t .kept

@@ -14,7 +14,24 @@ use Rattle.replacement.proofs.RuleLaws.{isolates}
 use Rattle.row.specs.Row.{Row, Effect, access, flush, moved, cleaned, dropped, droppedDirty}
 use Rattle.row.specs.View.{SameLine, SameView}
 use Rattle.row.specs.declared.Maps.{Maps}
-use Rattle.row.proofs.LineLaws.{Cut, line-trans, line-sym, access-leaves, access-stays, access-agrees, access-view, access-answer, flush-leaves, flush-word, flush-agrees, flush-answer, clean-gone, clean-agrees, drops-same, dirty-drops-same}
+use Rattle.row.proofs.LineLaws.{
+  Cut,
+  line-trans,
+  line-sym,
+  access-leaves,
+  access-stays,
+  access-agrees,
+  access-view,
+  access-answer,
+  flush-leaves,
+  flush-word,
+  flush-agrees,
+  flush-answer,
+  clean-gone,
+  clean-agrees,
+  drops-same,
+  dirty-drops-same,
+}
 use Rattle.verdict.specs.Inside.{Limited}
 use Rattle.verdict.specs.declared.Geometry.{Geometry}
 use Rattle.isolation.proofs.Relation.{Separate, Unheld, Unwritten, Alike}
@@ -75,7 +92,8 @@ module _ (g : Geometry) (l : Limited g) where
         },
       )
 
-      pub own-flush : (flush (policy d) tag r .answer ≡ flush (policy d) tag q .answer) × Alike g d policy (flush (policy d) tag r .row) (flush (policy d) tag q .row)
+      pub own-flush : (flush (policy d) tag r .answer ≡ flush (policy d) tag q .answer)
+          × Alike g d policy (flush (policy d) tag r .row) (flush (policy d) tag q .row)
       own-flush = (
         flush-answer rule (l .most-ways) (policy d) (cut d) tag r q long-r long-q (view-same r q a),
         record {
@@ -125,19 +143,23 @@ module _ (g : Geometry) (l : Limited g) where
               cases (moved (policy e) new w)
               (λ t. clean-gone R (l .most-ways) (policy e) new r q w h t)
               (λ t. clean-agrees R (l .most-ways) (policy e) new r q w h
-              (a .lines w h (unheld-before w (λ n. unmoved (bit (policy e .hit) w) (bit (new .hit) w) t (ap (λ (p : Maps). bit (p .hit) w) (sym changed) ∙ u e k n)) u)))
+              (a .lines w h (unheld-before w (λ n. unmoved (bit (policy e .hit) w) (bit (new .hit) w) t (ap (λ (p : Maps). bit (p .hit) w) (sym changed)
+              ∙ u e k n)) u)))
 
-          cells : (x : R .Cell) → Unwritten R d after x → R .view (R .reset (policy e .fill) (new .fill) (r .word)) x ≡ R .view (R .reset (policy e .fill) (new .fill) (q .word)) x
+          cells : (x : R .Cell) → Unwritten R d after x → R .view (R .reset (policy e .fill) (new .fill) (r .word)) x
+              ≡ R .view (R .reset (policy e .fill) (new .fill) (q .word)) x
           cells x u =
               cases (eqb e d)
-              (λ t. rule .reset-agrees (policy e .fill) (new .fill) (r .word) (q .word) x (a .cells x (unwritten-before x (λ n. absurd (n (eqb-true e d t))) u)))
+              (λ t. rule .reset-agrees (policy e .fill) (new .fill) (r .word) (q .word) x
+              (a .cells x (unwritten-before x (λ n. absurd (n (eqb-true e d t))) u)))
               (λ t. let gone : R .writes (new .fill) x ≡ false = ap (λ (p : Maps). R .writes (p .fill) x) (sym changed) ∙ u e k (eqb-false e d t) in
               cases (R .writes (policy e .fill) x)
               (λ z. rule .reset-clears (policy e .fill) (new .fill) (r .word) (q .word) x z gone)
               (λ z. rule .reset-agrees (policy e .fill) (new .fill) (r .word) (q .word) x (a .cells x (unwritten-before x (λ n. z) u))))
 
       -- the domain's own change drops the same lines, if no other domain holds a way that it gains
-      module _ (own : e ≡ d) (gains : (w : ℕ) → bit (new .hit) w ≡ true → Unheld d policy w) (long-r : length (r .tags) ≡ g .ways) (long-q : length (q .tags) ≡ g .ways) where
+      module _ (own : e ≡ d) (gains : (w : ℕ) → bit (new .hit) w ≡ true → Unheld d policy w) (long-r : length (r .tags) ≡ g .ways)
+          (long-q : length (q .tags) ≡ g .ways) where
         moved-line : (w : ℕ) → w < g .ways → moved (policy e) new w ≡ true → SameLine r q w
         unfolding moved
         moved-line w h t =

@@ -53,7 +53,14 @@ module _ (g : Geometry) (limits : within g ≡ true) (d : ℕ) (low : d < 16) wh
     sized-here : sized g (lengths (s .tables)) ≡ true
     unfolding sized
     sized-here =
-        rw (w .shaped .tags-long, w .shaped .valid-long, w .shaped .dirty-long, w .shaped .words-long, eq-eqb (g .sets * g .ways) (g .sets * g .ways) refl, eq-eqb (g .sets) (g .sets) refl)
+        rw (
+          w .shaped .tags-long,
+          w .shaped .valid-long,
+          w .shaped .dirty-long,
+          w .shaped .words-long,
+          eq-eqb (g .sets * g .ways) (g .sets * g .ways) refl,
+          eq-eqb (g .sets) (g .sets) refl,
+        )
 
     -- a domain of 16 or more is refused by 3
     step-beyond : 16 ≤ c .domain → stepOn g c s ≡ answers (Refused 3) s
@@ -61,7 +68,8 @@ module _ (g : Geometry) (limits : within g ≡ true) (d : ℕ) (low : d < 16) wh
     step-beyond h = rw (limits, sized-here, le-leb 16 (c .domain) h)
 
     -- another's step is decided by its kind
-    step-within : c .domain < 16 → stepOn g c s ≡ decided (refusalBy (kindOf (c .kind)) g (policies (g .ways) (s .domains)) (domainOf (s .domains) (c .domain) .counts) (c .domain) (c .argument)) (stepBy (kindOf (c .kind)) g (c .domain) (c .argument) s) s
+    step-within : c .domain < 16 → stepOn g c s ≡ decided (refusalBy (kindOf (c .kind)) g (policies (g .ways) (s .domains))
+        (domainOf (s .domains) (c .domain) .counts) (c .domain) (c .argument)) (stepBy (kindOf (c .kind)) g (c .domain) (c .argument) s) s
     unfolding step refusal
     step-within h = rw (limits, sized-here, lt-leb 16 (c .domain) h)
 
@@ -165,11 +173,13 @@ module _ (g : Geometry) (limits : within g ≡ true) (d : ℕ) (low : d < 16) wh
     one-decided n o f = cases (eqb n 0) (λ t. rw t f) (λ t. rw t rel)
 
     dropped-by : (k e arg : ℕ) → k < 4 → e < 16 → (e ≡ d → ⊥)
-        → Related g d (decided (refusalBy (kindOf k) g (policies (g .ways) (a .domains)) (domainOf (a .domains) e .counts) e arg) (stepBy (kindOf k) g e arg a) a .state) b
+        → Related g d (decided (refusalBy (kindOf k) g (policies (g .ways) (a .domains)) (domainOf (a .domains) e .counts) e arg)
+        (stepBy (kindOf k) g e arg a) a .state) b
     unfolding kindOf stepBy
     dropped-by k e arg h low-e n =
         cases (ltb k 3)
-        (λ t. rw t (one-decided _ (useLine g (lineWork false (ruleOf (g .rule) (g .ways)) (eqb k 2)) e arg a) (other-line g l d low false (eqb k 2) arg a b rel e low-e n)))
+        (λ t. rw t (one-decided _ (useLine g (lineWork false (ruleOf (g .rule) (g .ways)) (eqb k 2)) e arg a)
+        (other-line g l d low false (eqb k 2) arg a b rel e low-e n)))
         (λ t. rw (t, eq-eqb k 3 (omega (arith, ltb-false k 3 t)))
         (one-decided _ (useLine g (lineWork true (ruleOf (g .rule) (g .ways)) false) e arg a) (other-line g l d low true false arg a b rel e low-e n)))
 

@@ -35,7 +35,9 @@ fn take_one(
 ) -> usize
     requires { ⌜ count < length (now codes) ⌝ }
     requires { ⌜ count < length (now arguments) ⌝ }
-    ensures { λ r. ⌜ takenOf (record { number = 0; count = r }) (now (codes .exit)) (now (arguments .exit)) ≡ takeOne domain code argument count (now (codes .entry)) (now (arguments .entry)) ⌝ }
+    ensures { λ r.
+        ⌜ takenOf (record { number = 0; count = r }) (now (codes .exit)) (now (arguments .exit))
+        ≡ takeOne domain code argument count (now (codes .entry)) (now (arguments .entry)) ⌝ }
 {
     if stays(domain, code, argument) {
         codes[count] = code;
@@ -53,7 +55,9 @@ pub fn purge_trace(
     kept_codes: &mut [u16],
     kept_arguments: &mut [u64],
 ) -> Purged
-    ensures { λ r. ⌜ takenOf r (now («kept_codes» .exit)) (now («kept_arguments» .exit)) ≡ purgeOf domain (now (codes .entry)) (now (arguments .entry)) (now («kept_codes» .entry)) (now («kept_arguments» .entry)) ⌝ }
+    ensures { λ r.
+        ⌜ takenOf r (now («kept_codes» .exit)) (now («kept_arguments» .exit))
+        ≡ purgeOf domain (now (codes .entry)) (now (arguments .entry)) (now («kept_codes» .entry)) (now («kept_arguments» .entry)) ⌝ }
 {
     let steps = codes.len();
     if arguments.len() != steps {

@@ -29,7 +29,8 @@ pub record Isolates (W : ℕ) (R : Rule) : Type 0 where
   -- a change of fill map: a cell that two words agree on is one they agree on afterwards
   pub reset-agrees : (old new x y : ℕ) (c : R .Cell) → R .view x c ≡ R .view y c → R .view (R .reset old new x) c ≡ R .view (R .reset old new y) c
   -- and a cell that is given up comes out the same whatever it was
-  pub reset-clears : (old new x y : ℕ) (c : R .Cell) → R .writes old c ≡ true → R .writes new c ≡ false → R .view (R .reset old new x) c ≡ R .view (R .reset old new y) c
+  pub reset-clears : (old new x y : ℕ) (c : R .Cell) → R .writes old c ≡ true → R .writes new c ≡ false
+      → R .view (R .reset old new x) c ≡ R .view (R .reset old new y) c
   -- what a map goes by it also writes; an empty map writes nothing
   pub own-writes : (map : ℕ) (c : R .Cell) → R .own map c ≡ true → R .writes map c ≡ true
   pub empty-writes : (map : ℕ) (c : R .Cell) → ((w : ℕ) → bit map w ≡ false) → R .writes map c ≡ false

@@ -15,7 +15,30 @@ use Rattle.waymap.proofs.WordLaws.{bit-word, bit-word-in}
 use Rattle.waymap.proofs.WayLaws.{any-ext, lowest-ext, lowest-found, count-ext}
 use Rattle.replacement.specs.Rule.{Rule}
 use Rattle.replacement.specs.Isolates.{Isolates, SameOwn}
-use Rattle.row.specs.Row.{Row, Effect, ways, asRead, matches, isHit, hitWay, hitAt, vacant, filled, fillAt, evictAt, accessBy, access, flushAt, flush, moved, without, wiped, dropped, droppedDirty, cleaned}
+use Rattle.row.specs.Row.{
+  Row,
+  Effect,
+  ways,
+  asRead,
+  matches,
+  isHit,
+  hitWay,
+  hitAt,
+  vacant,
+  filled,
+  fillAt,
+  evictAt,
+  accessBy,
+  access,
+  flushAt,
+  flush,
+  moved,
+  without,
+  wiped,
+  dropped,
+  droppedDirty,
+  cleaned,
+}
 use Rattle.row.specs.View.{SameLine, SameView}
 use Rattle.row.specs.declared.Maps.{Maps}
 use Rattle.row.specs.declared.Answer.{Answer}
@@ -123,7 +146,8 @@ module _ {W : ℕ} {R : Rule} (I : Isolates W R) (few : W ≤ 16) (p : Maps) (c 
     unfolding isHit hitWay matches
     hit-own e =
         let w = hitWay r (p .hit) tag in
-        and-left (bit (p .hit) w) (bit (r .valid) w) (and-left (bit (p .hit) w && bit (r .valid) w) (eqb (getD (r .tags) w 0) tag) (lowest-found (ways r) (matches r (p .hit) tag) e .1))
+        and-left (bit (p .hit) w) (bit (r .valid) w) (and-left (bit (p .hit) w && bit (r .valid) w) (eqb (getD (r .tags) w 0) tag)
+        (lowest-found (ways r) (matches r (p .hit) tag) e .1))
 
     vacant-own : any (ways r) (vacant r (p .fill)) ≡ true → bit (p .hit) (lowest (ways r) (vacant r (p .fill))) ≡ true
     unfolding vacant
@@ -145,8 +169,10 @@ module _ {W : ℕ} {R : Rule} (I : Isolates W R) (few : W ≤ 16) (p : Maps) (c 
         access-cases R p tag store r r (λ e f. SameLine (e .row) r v) refl refl refl
         (λ t. hit-other R (p .fill) store (hitWay r (p .hit) tag) r v low (apart (hitWay r (p .hit) tag) v (hit-own t) b))
         (same-line r v)
-        (λ t. filled-other R (p .fill) tag store (lowest (ways r) (vacant r (p .fill))) (r .word) r v low (apart (lowest (ways r) (vacant r (p .fill))) v (vacant-own t) b))
-        (λ t. filled-other R (p .fill) tag store (R .victim (p .fill) (r .word)) (R .before (p .fill) (r .word)) r v low (apart (R .victim (p .fill) (r .word)) v (victim-own t) b))
+        (λ t. filled-other R (p .fill) tag store (lowest (ways r) (vacant r (p .fill))) (r .word) r v low
+        (apart (lowest (ways r) (vacant r (p .fill))) v (vacant-own t) b))
+        (λ t. filled-other R (p .fill) tag store (R .victim (p .fill) (r .word)) (R .before (p .fill) (r .word)) r v low
+        (apart (R .victim (p .fill) (r .word)) v (victim-own t) b))
       where
         low : v < 16
         low = lt-of-lt-of-le h few
@@ -240,7 +266,8 @@ module _ {W : ℕ} {R : Rule} (I : Isolates W R) (few : W ≤ 16) (p : Maps) (c 
         e
         (λ t. rw (← lowest-same) (filled-agrees R (p .fill) tag store (lowest (ways r) (vacant r (p .fill))) (r .word) r q (q .word) v low as-long e))
         (λ t. rw (← victim-same)
-        (filled-agrees R (p .fill) tag store (R .victim (p .fill) (r .word)) (R .before (p .fill) (r .word)) r q (R .before (p .fill) (q .word)) v low as-long e))
+        (filled-agrees R (p .fill) tag store (R .victim (p .fill) (r .word)) (R .before (p .fill) (r .word)) r q
+        (R .before (p .fill) (q .word)) v low as-long e))
       where
         low : v < 16
         low = lt-of-lt-of-le h few
@@ -262,7 +289,8 @@ module _ {W : ℕ} {R : Rule} (I : Isolates W R) (few : W ≤ 16) (p : Maps) (c 
     unfolding flush flushAt
     flush-answer =
         rw (← hit-same, ← way-same)
-        (cases (isHit r (p .hit) tag) (λ t. rw t (ap (Flush (hitWay r (p .hit) tag)) (s .lines (hitWay r (p .hit) tag) (hit-own r long-r t) .dirty))) (λ t. rw t))
+        (cases (isHit r (p .hit) tag) (λ t. rw t (ap (Flush (hitWay r (p .hit) tag)) (s .lines (hitWay r (p .hit) tag) (hit-own r long-r t) .dirty)))
+        (λ t. rw t))
 
     pub flush-agrees : (v : ℕ) → v < W → SameLine r q v → SameLine (flush p tag r .row) (flush p tag q .row) v
     unfolding flush flushAt

@@ -44,7 +44,8 @@ hit-below W p =
 pub fill-below : (W : ℕ) (p : Maps) → asRead W p .fill < 2 ^ W
 unfolding asRead
 fill-below W p =
-    high-none 16 W (word 16 (λ (w : ℕ). bit (p .fill) w && (bit (p .hit) w && ltb w W))) (word-lt 16 (λ (w : ℕ). bit (p .fill) w && (bit (p .hit) w && ltb w W)))
+    high-none 16 W (word 16 (λ (w : ℕ). bit (p .fill) w && (bit (p .hit) w && ltb w W)))
+    (word-lt 16 (λ (w : ℕ). bit (p .fill) w && (bit (p .hit) w && ltb w W)))
     (λ i h. bit-word 16 (λ (w : ℕ). bit (p .fill) w && (bit (p .hit) w && ltb w W)) i
     ∙ rw (le-ltb i W h, and-false (bit (p .hit) i), and-false (bit (p .fill) i)) (and-false (ltb i 16)))
 

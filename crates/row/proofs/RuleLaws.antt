@@ -24,7 +24,8 @@ use Rattle.row.specs.declared.rules.Choice.{Choice}
 pub most-ways : (W rule : ℕ) → inLimits W rule ≡ true → W ≤ 16
 most-ways W rule e = sized W rule e .most
 
-pub touch-gives : {W rule fill way : ℕ} (x : ℕ) (o : Outcome) → Usable W rule fill → way < W → result o ≡ touchOf W rule x fill way → o .word ≡ ruleOf rule W .touch fill way x
+pub touch-gives : {W rule fill way : ℕ} (x : ℕ) (o : Outcome) → Usable W rule fill → way < W → result o ≡ touchOf W rule x fill way
+    → o .word ≡ ruleOf rule W .touch fill way x
 unfolding touchOf
 touch-gives {W} {rule} {fill} {way} x o u h e = ap (λ (r : Result). r .word) (rw (u .limits, u .within, lt-ltb way W h) at e)
 

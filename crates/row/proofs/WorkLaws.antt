@@ -13,7 +13,19 @@ use Rattle.waymap.specs.Bits.{Bits, bit, word, any, lowest, count, put, reaches
 use Rattle.waymap.proofs.Booleans.{cases, cleared}
 use Rattle.waymap.proofs.BitLaws.{bit-and, bit-xor, bit-not}
 use Rattle.waymap.proofs.WordLaws.{word-lt, bit-word, bit-word-in, from-bits, bit-high, high-none}
-use Rattle.waymap.proofs.WayLaws.{any-bits, any-lowest, any-ext, any-wider, none-at, lowest-ext, lowest-wider, lowest-none, lowest-found, count-ext, count-wider}
+use Rattle.waymap.proofs.WayLaws.{
+  any-bits,
+  any-lowest,
+  any-ext,
+  any-wider,
+  none-at,
+  lowest-ext,
+  lowest-wider,
+  lowest-none,
+  lowest-found,
+  count-ext,
+  count-wider,
+}
 use Rattle.waymap.proofs.MapLaws.{below-reach, none-empty}
 use Rattle.replacement.specs.Rule.{Rule, ruleOf}
 use Rattle.waymap.specs.Ways.{isWays}
@@ -21,7 +33,31 @@ use Rattle.replacement.specs.Calls.{inLimits, resetOf}
 use Rattle.replacement.specs.Change.{changeOf, changeBy}
 use Rattle.replacement.specs.declared.Change.{Change}
 use Rattle.replacement.proofs.CallLaws.{change-resets}
-use Rattle.row.specs.Row.{Row, Effect, ways, asRead, matches, isHit, hitWay, hitAt, vacant, filled, fillAt, evictAt, accessBy, access, flushAt, flush, moved, without, wiped, dropped, droppedDirty, cleaned, clean}
+use Rattle.row.specs.Row.{
+  Row,
+  Effect,
+  ways,
+  asRead,
+  matches,
+  isHit,
+  hitWay,
+  hitAt,
+  vacant,
+  filled,
+  fillAt,
+  evictAt,
+  accessBy,
+  access,
+  flushAt,
+  flush,
+  moved,
+  without,
+  wiped,
+  dropped,
+  droppedDirty,
+  cleaned,
+  clean,
+}
 use Rattle.row.specs.Calls.{rowOf, lookupOf}
 use Rattle.row.specs.Sweep.{sweepOf, drops, sweptLines, sweepBy}
 use Rattle.row.specs.Inside.{Usable, ChoiceOf, untagged, linesOf, missAt}
@@ -37,7 +73,8 @@ use Rattle.row.proofs.ReadLaws as ReadLaws
 
 -- a search among the valid ways of the hit map is the lookup
 pub search-is : (tags : List ℕ) (valid hit tag : ℕ)
-    → lowest (length tags) (λ (w : ℕ). bit (bitAnd hit valid) w && eqb (getD tags w 0) tag) ≡ hitWay (record { tags = tags; valid = valid; dirty = 0; word = 0 }) hit tag
+    → lowest (length tags) (λ (w : ℕ). bit (bitAnd hit valid) w && eqb (getD tags w 0) tag)
+    ≡ hitWay (record { tags = tags; valid = valid; dirty = 0; word = 0 }) hit tag
 unfolding hitWay matches
 search-is tags valid hit tag = lowest-ext (length tags) (λ i h. ap (λ (t : Bool). t && eqb (getD tags i 0) tag) (bit-and hit valid i))
 
@@ -51,7 +88,8 @@ unfolding isHit hitWay
 miss-above r hit tag h = any-lowest (ways r) (matches r hit tag) ∙ le-ltb (lowest (ways r) (matches r hit tag)) (ways r) h
 
 -- the answer of a lookup, of a number of ways within the limits
-module _ (tags : List ℕ) (valid hit tag : ℕ) (limits : isWays (length tags) ≡ true) (p : Maps) (read : p ≡ asRead (length tags) (record { hit = hit; fill = 0 })) where
+module _ (tags : List ℕ) (valid hit tag : ℕ) (limits : isWays (length tags) ≡ true) (p : Maps)
+    (read : p ≡ asRead (length tags) (record { hit = hit; fill = 0 })) where
   abbrev sought : Row
   sought = record { tags = tags; valid = valid; dirty = 0; word = 0 }
 
@@ -134,7 +172,8 @@ module _ (rule tag : ℕ) (store : Bool) (tags : List ℕ) (l : Lines) where
             cases (any (length tags) (vacant row fill))
             (λ t. absurd (lt-irrefl way
             (lt-of-lt-of-le
-            (rw (e ∙ lowest-vacant ∙ lowest-wider (length tags) 16 (vacant row fill) (most-ways (length tags) rule (u .limits)) t) (lowest-found (length tags) (vacant row fill) t .0))
+            (rw (e ∙ lowest-vacant ∙ lowest-wider (length tags) 16 (vacant row fill) (most-ways (length tags) rule (u .limits)) t)
+            (lowest-found (length tags) (vacant row fill) t .0))
             h)))
             (λ t. t)
 

@@ -5,6 +5,8 @@ use Prim.Native.Nat.{ℕ, _+_, _*_, _-_, _≤_, _<_}
 use native.Mathlib.Nat.{le-trans, le-of-eq, one-mul, add-mul, mul-le-mul-right}
 use native.Mathlib.Numerals.{add-one-le}
 use native.Mathlib.Omega.{arith}
+use mir.Syntax.{w64}
+use mir.Val.{Fits}
 use lib.ListN.{length}
 use lib.Seq.{length-take-le}
 use Rattle.io.specs.Counts.{Counts}
@@ -19,6 +21,16 @@ rows-below {few} {sets} {ways} h r = record {
   dirty-long = le-trans h (r .dirty-long);
   words-long = le-trans h (r .words-long);
 }
+
+-- The last set has its maps and its word: a place of two and of eight bytes.
+pub set-inside : (set : ℕ) {count : ℕ} → set + 1 ≤ count → set < count
+set-inside set h = omega arith
+
+pub map-fits : {set : ℕ} → set < 256 → Fits w64 (set * 2)
+map-fits h = record { fits = omega arith }
+
+pub word-fits : {set : ℕ} → set < 256 → Fits w64 (set * 8)
+word-fits h = record { fits = omega arith }
 
 -- The tags of the last set lie within the table.
 pub row-inside : (set : ℕ) {ways start tags valid dirty words : ℕ} → Rows (set + 1) ways tags valid dirty words → start ≡ set * ways

@@ -142,14 +142,16 @@ module _ {W : ℕ} {m : Bits} {count held frees rights : ℕ} (l : Level W m cou
       (λ t. rw (t, odd-out p (omega (arith, ltb-false p 64 t, l .within, l .small))) (sym (and-false (not (bit (evenBits held) p)))))
 
   -- the level above: its places, and the free and forced nodes with its own
-  turn : Level W m (count / 2) (bitOr (evenBits held) (oddBits held)) (bitOr frees (both held * 2 ^ (count / 2 - 1))) (bitOr rights (rightOnly held * 2 ^ (count / 2 - 1)))
+  turn : Level W m (count / 2) (bitOr (evenBits held) (oddBits held)) (bitOr frees (both held * 2 ^ (count / 2 - 1)))
+      (bitOr rights (rightOnly held * 2 ^ (count / 2 - 1)))
   unfolding free forcedRight
   turn = record {
     height = halved count (l .height) big (l .power) .1 .0;
     power = halved count (l .height) big (l .power) .1 .1;
     within = omega (arith, l .within);
     small = l .small;
-    held-lt = high-none 8 (count / 2) joined (or-lt 8 (evenBits held) (oddBits held) (word-lt 8 (λ (q : ℕ). bit held (2 * q))) (word-lt 8 (λ (q : ℕ). bit (held / 2 ^ 1) (2 * q))))
+    held-lt = high-none 8 (count / 2) joined (or-lt 8 (evenBits held) (oddBits held) (word-lt 8 (λ (q : ℕ). bit held (2 * q)))
+        (word-lt 8 (λ (q : ℕ). bit (held / 2 ^ 1) (2 * q))))
         (λ i h. bit-or (evenBits held) (oddBits held) i ∙ rw (even-out i h, odd-out i h));
     held-is = λ p h.
         bit-or (evenBits held) (oddBits held) p ∙ ap₂ _||_ (even-in p h) (odd-in p h)

@@ -2,7 +2,22 @@
 use mathlib.Core.Path.{_≡_, refl, sym, ap, ap₂, _∙_}
 use mathlib.Core.Bool.{Bool, true, false, cond, not, _&&_, _||_, and-true, and-false, false≢true}
 use Prim.Native.Nat.{ℕ, zero, suc, _+_, _-_, _*_, _/_, _%_, _^_, _≤_, _<_}
-use native.Mathlib.Nat.{pow-suc, div-div-eq-div-mul, div-add-mod', div-lt-iff-lt-mul, div-eq-of-lt, div-eq-of-lt-le, mod-lt, mul-le-mul-left, mul-le-mul-right, mul-comm, mul-assoc, one-mul, div-le-self, lt-of-le-of-lt}
+use native.Mathlib.Nat.{
+  pow-suc,
+  div-div-eq-div-mul,
+  div-add-mod',
+  div-lt-iff-lt-mul,
+  div-eq-of-lt,
+  div-eq-of-lt-le,
+  mod-lt,
+  mul-le-mul-left,
+  mul-le-mul-right,
+  mul-comm,
+  mul-assoc,
+  one-mul,
+  div-le-self,
+  lt-of-le-of-lt,
+}
 use native.Mathlib.Omega.{arith}
 use lib.Dec.{eqb, ltb}
 use lib.Bits.{bitAnd, bitOr, and-le-l, or-lt}

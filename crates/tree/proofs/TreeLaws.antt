@@ -127,9 +127,10 @@ free-beyond W m i h = simp (holds-beyond W m (left i) (omega arith), holds-beyon
 pub free-empty : (W : ℕ) (m : Bits) (i : ℕ) → ((w : ℕ) → m w ≡ false) → free W m i ≡ false
 unfolding free holds
 free-empty W m i none =
-    simp
-    (any-none W {p = λ (w : ℕ). m w && under W (left i) w} (λ w h. rw (none w)),
-    any-none W {p = λ (w : ℕ). m w && under W (right i) w} (λ w h. rw (none w)))
+    simp (
+      any-none W {p = λ (w : ℕ). m w && under W (left i) w} (λ w h. rw (none w)),
+      any-none W {p = λ (w : ℕ). m w && under W (right i) w} (λ w h. rw (none w)),
+    )
 
 pub free-node : (W : ℕ) (m : Bits) (i : ℕ) → free W m i ≡ true → i < W - 1
 free-node W m i e =
@@ -241,7 +242,8 @@ unfolding masked mask policy
 masked-bit W m x i node h =
     bit-or (bitAnd x (2 ^ 64 - 1 - mask W m)) (bitAnd (mask W m) (policy W m)) i
     ∙ ap₂ _||_
-    (bit-and x (2 ^ 64 - 1 - mask W m) i ∙ ap (λ (t : Bool). bit x i && t) (bit-not 64 (mask W m) i (word-lt 64 (λ (j : ℕ). ltb j (W - 1) && not (free W m j)))))
+    (bit-and x (2 ^ 64 - 1 - mask W m) i ∙ ap (λ (t : Bool). bit x i && t)
+    (bit-not 64 (mask W m) i (word-lt 64 (λ (j : ℕ). ltb j (W - 1) && not (free W m j)))))
     (bit-and (mask W m) (policy W m) i)
     ∙ rw (bit-word 64 (λ (j : ℕ). ltb j (W - 1) && not (free W m j)) i, bit-word 64 (forcedRight W m) i, lt-ltb i 64 h, lt-ltb i (W - 1) node)
     (choose (free W m i) (bit x i) (forcedRight W m i))

@@ -109,7 +109,8 @@ module _ (W rule fill other : ℕ) (limits : inLimits W rule ≡ true) (f : reac
       say false OutOfReach t e = absurd (omega arith)
       say false SharedNode t e = let z : _≡_ {A = ℕ} 9 0 = cc in absurd (omega arith)
 
-  pub unshared-is : (q : Reply) → OneOf (0 ∷ 1 ∷ 2 ∷ 3 ∷ []) (tagOf the-type q) → answerOf q ≡ sharesOf W rule fill other → false ≡ ruleOf rule W .shares fill other
+  pub unshared-is : (q : Reply) → OneOf (0 ∷ 1 ∷ 2 ∷ 3 ∷ []) (tagOf the-type q) → answerOf q ≡ sharesOf W rule fill other
+      → false ≡ ruleOf rule W .shares fill other
   unshared-is q t e = say (ruleOf rule W .shares fill other) q t (shares-answer q e)
     where
       not-four : (_≡_ {A = ℕ} 4 0) ⊎ ((_≡_ {A = ℕ} 4 1) ⊎ ((_≡_ {A = ℕ} 4 2) ⊎ (_≡_ {A = ℕ} 4 3))) → ⊥
@@ -183,7 +184,8 @@ pub not-full : (p : Maps) (c : Counts) → useRefusal p c ≡ 0 → isFull c ≡
 unfolding useRefusal
 not-full p c e =
     cases (isFull c)
-    (λ t. absurd (cases (eqb (p .hit) 0) (λ q. let z : _≡_ {A = ℕ} 6 0 = rw q at e in omega arith) (λ q. let z : _≡_ {A = ℕ} 7 0 = rw (q, t) at e in omega arith)))
+    (λ t. absurd (cases (eqb (p .hit) 0) (λ q. let z : _≡_ {A = ℕ} 6 0 = rw q at e in omega arith) (λ q. let z : _≡_ {A = ℕ} 7 0 = rw (q, t) at e in
+    omega arith)))
     (λ t. t)
 
 -- ---- what is not turned down

@@ -23,9 +23,12 @@ is-ways W (inr (inr (inr e))) = rw e
 pub not-ways : (W : ℕ) → ((W ≡ 2) ⊎ ((W ≡ 4) ⊎ ((W ≡ 8) ⊎ (W ≡ 16))) → ⊥) → isWays W ≡ false
 unfolding isWays any
 not-ways W no-one =
-    rw
-    (ne-eqb W 2 (λ e. no-one (inl e)), ne-eqb W 4 (λ e. no-one (inr (inl e))), ne-eqb W 8 (λ e. no-one (inr (inr (inl e)))),
-    ne-eqb W 16 (λ e. no-one (inr (inr (inr e)))))
+    rw (
+      ne-eqb W 2 (λ e. no-one (inl e)),
+      ne-eqb W 4 (λ e. no-one (inr (inl e))),
+      ne-eqb W 8 (λ e. no-one (inr (inr (inl e)))),
+      ne-eqb W 16 (λ e. no-one (inr (inr (inr e)))),
+    )
 
 -- such a number is a power of two from 2 to 16
 pub sized : (W : ℕ) → isWays W ≡ true → Sized W

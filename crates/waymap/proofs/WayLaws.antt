@@ -93,7 +93,8 @@ lowest-found zero p e = absurd (false≢true e)
 lowest-found (suc n) p e =
     cases (p 0)
     (λ t. rw t (suc-le-suc zero-le, t))
-    (λ t. let r : (lowest n (λ (j : ℕ). p (suc j)) < n) × (p (suc (lowest n (λ (j : ℕ). p (suc j)))) ≡ true) = lowest-found n (λ (j : ℕ). p (suc j)) (rw t at e) in
+    (λ t. let r : (lowest n (λ (j : ℕ). p (suc j)) < n) × (p (suc (lowest n (λ (j : ℕ). p (suc j)))) ≡ true) = lowest-found n (λ (j : ℕ). p (suc j))
+    (rw t at e) in
     rw t (suc-le-suc (r .0), r .1))
 
 -- no way below it passes
@@ -172,7 +173,8 @@ count-le (suc n) p = omega (arith, digit-lt (p 0), count-le n (λ (i : ℕ). p (
 pub count-wider : (k n : ℕ) (p : Bits) → k ≤ n → ((i : ℕ) → k ≤ i → p i ≡ false) → count n p ≡ count k p
 unfolding count
 count-wider zero zero p h none = refl
-count-wider zero (suc n) p h none = rw (none 0 zero-le) (zero-add (count n (λ (i : ℕ). p (suc i))) ∙ count-wider zero n (λ (i : ℕ). p (suc i)) zero-le (λ i l. none (suc i) zero-le))
+count-wider zero (suc n) p h none =
+    rw (none 0 zero-le) (zero-add (count n (λ (i : ℕ). p (suc i))) ∙ count-wider zero n (λ (i : ℕ). p (suc i)) zero-le (λ i l. none (suc i) zero-le))
 count-wider (suc k) zero p h none = absurd (not-suc-le-zero h)
 count-wider (suc k) (suc n) p h none =
     ap (λ (r : ℕ). digit (p 0) + r) (count-wider k n (λ (i : ℕ). p (suc i)) (le-of-suc-le-suc h) (λ i l. none (suc i) (suc-le-suc l)))

@@ -32,7 +32,8 @@ returns : tie.Need-returns
 returns c =
     let entry = c .before .before .before .before .before .before .before in
     step-refused (entry .args .g) (entry .args .domain) (entry .args .kind) (entry .args .argument) (lent entry) (entry .args .t6)
-    (by-sizes (entry .args .g) (lengths (lent entry)) (policies (entry .args .g .ways) (entry .args .t6)) (domainOf (entry .args .t6) (entry .args .domain) .counts)
+    (by-sizes (entry .args .g) (lengths (lent entry)) (policies (entry .args .g .ways) (entry .args .t6))
+    (domainOf (entry .args .t6) (entry .args .domain) .counts)
     (entry .args .domain) (entry .args .kind) (entry .args .argument) (c .before .before .sizes .ensures) (c .before .if1 .taken))
     (c .before .if1 .taken) (c .refused .ensures)
 
@@ -43,8 +44,10 @@ returns-2 : tie.Need-returns-2
 returns-2 c =
     let entry = c .before .before .before .before .before .before .before .before in
     step-refused (entry .args .g) (entry .args .domain) (entry .args .kind) (entry .args .argument) (lent entry) (entry .args .t6)
-    (by-domain (entry .args .g) (lengths (lent entry)) (policies (entry .args .g .ways) (entry .args .t6)) (domainOf (entry .args .t6) (entry .args .domain) .counts)
-    (entry .args .domain) (entry .args .kind) (entry .args .argument) (c .before .before .before .sizes .ensures) (c .before .before .if1 .left) (c .before .if2 .taken))
+    (by-domain (entry .args .g) (lengths (lent entry)) (policies (entry .args .g .ways) (entry .args .t6))
+    (domainOf (entry .args .t6) (entry .args .domain) .counts)
+    (entry .args .domain) (entry .args .kind) (entry .args .argument) (c .before .before .before .sizes .ensures) (c .before .before .if1 .left)
+    (c .before .if2 .taken))
     (λ e. omega arith) (c .refused2 .ensures)
 
 mul-own : tie.Need-mul-own
@@ -98,13 +101,14 @@ same-length-4 c = search needs
 returns-3 : tie.Need-returns-3
 unfolding domainOf
 returns-3 c =
-    let sized = c .before .before .before .before .before .before .before .before .before .before .before .before .before .before .before .before .before .before .before .before in
+    let called = c .before .before .before .before .before .before .before .before .before in
+    let told = called .before .before .before .before .before .before in
+    let asked = told .before .before .kind-of in
+    let sized = told .before .before .before .before .before in
     let entry = sized .before .before .before .before .before .before in
-    let asked = c .before .before .before .before .before .before .before .before .before .before .before .before .before .before .before .before .before .kind-of in
-    let told = c .before .before .before .before .before .before .before .before .before .before .before .before .before .before .before .asked .given in
     step-line (entry .args .g) (entry .args .domain) (entry .args .kind) (entry .args .argument) (lent entry) (entry .args .t6) (is-shaped sized)
-    (asked .result) (asked .ensures) (sized .before .sizes .ensures) (sized .if1 .left) (c .before .before .before .before .before .before .before .before .before .before .before .before .before .before .before .before .before .before .before .if2 .left)
-    _ _ (told .1) (c .before .before .before .before .before .before .before .before .before .line .ensures) (c .put-back .ensures)
+    (asked .result) (asked .ensures) (sized .before .sizes .ensures) (sized .if1 .left) (told .before .before .before .before .if2 .left)
+    _ _ (told .asked .given .1) (called .line .ensures) (c .put-back .ensures)
 
 same-length-5 : tie.Need-same-length-5
 same-length-5 c = search needs
@@ -121,12 +125,15 @@ same-length-8 c = search needs
 returns-4 : tie.Need-returns-4
 unfolding domainOf
 returns-4 c =
-    let sized = c .before .before .before .before .before .before .before .before .before .before .before .before .before .before .before .before .before .before .before .before in
+    let called = c .before .before .before .before .before .before .before .before .before in
+    let gathered = called .before .before .before .before .before in
+    let chosen = gathered .before .before in
+    let asked = chosen .before .kind-of in
+    let sized = chosen .before .before .before .before in
     let entry = sized .before .before .before .before .before .before in
-    let asked = c .before .before .before .before .before .before .before .before .before .before .before .before .before .before .before .before .before .kind-of in
     step-policy (entry .args .g) (entry .args .domain) (entry .args .kind) (entry .args .argument) (lent entry) (entry .args .t6) (is-shaped sized)
-    (asked .result) (asked .ensures) (sized .before .sizes .ensures) (sized .if1 .left) (c .before .before .before .before .before .before .before .before .before .before .before .before .before .before .before .before .before .before .before .if2 .left)
-    (c .before .before .before .before .before .before .before .before .before .before .before .before .before .before .before .before .match .keys2) (c .before .before .before .before .before .before .before .before .before .before .before .before .before .before .policies-of .ensures) (c .before .before .before .before .before .before .before .before .before .policy .ensures) (c .put-back2 .ensures)
+    (asked .result) (asked .ensures) (sized .before .sizes .ensures) (sized .if1 .left) (chosen .before .before .before .if2 .left)
+    (chosen .match .keys2) (gathered .policies-of .ensures) (called .policy .ensures) (c .put-back2 .ensures)
 
 returns-5 : tie.Need-returns-5
 returns-5 c =

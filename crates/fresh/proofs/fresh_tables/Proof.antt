@@ -1,15 +1,22 @@
 -- `fresh::fresh_tables` meets its contract.
+use Rattle.cache.specs.Tables.{Tables}
 use Rattle.cache.specs.Step.{tablesOf}
 use Rattle.fresh.proofs.FillLaws.{fresh-refused, fresh-made}
 use borrow.Author.Needs.{needs}
 use Rattle.fresh.proofs.fresh_tables.Statement.{statement}
 use Rattle.fresh.proofs.fresh_tables.Tie as tie
 
+-- the tables as they were lent
+abbrev lent : tie.Start → Tables
+lent c = tablesOf (c .args .tags .now) (c .args .valid .now) (c .args .dirty .now) (c .args .words .now)
+
 sizes-requires : tie.Need-sizes-requires
 sizes-requires c κs = search needs
 
 returns : tie.Need-returns
-returns c = let a = (c .before .before .before .before .before .before .args) in fresh-refused (a .g) (tablesOf (a .tags .now) (a .valid .now) (a .dirty .now) (a .words .now)) (c .before .sizes .ensures) (c .if1 .taken)
+returns c =
+    let entry = c .before .before .before .before .before .before in
+    fresh-refused (entry .args .g) (lent entry) (c .before .sizes .ensures) (c .if1 .taken)
 
 fresh-requires : tie.Need-fresh-requires
 fresh-requires c κs = search needs
@@ -39,7 +46,14 @@ same-length-4 : tie.Need-same-length-4
 same-length-4 c = search needs
 
 returns-2 : tie.Need-returns-2
-returns-2 c = let a = (c .before .before .before .before .before .before .before .before .before .before .before .before .before .before .before .before .before .before .before .before .before .before .before .args) in fresh-made (a .g) (tablesOf (a .tags .now) (a .valid .now) (a .dirty .now) (a .words .now)) (c .before .before .before .before .before .before .before .before .before .before .before .before .before .before .before .before .fresh .result) (c .before .before .before .before .before .before .before .before .before .before .before .before .before .before .before .before .before .before .sizes .ensures) (c .before .before .before .before .before .before .before .before .before .before .before .before .before .before .before .before .before .if1 .left) (c .before .before .before .before .before .before .before .before .before .before .before .before .before .before .before .before .fresh .ensures) (c .before .before .before .before .before .before .before .before .before .before .before .before .before .before .fill-words .ensures) (c .before .before .before .before .before .before .before .before .before .before .clear-maps .ensures) (c .before .before .before .before .before .before .clear-maps2 .ensures) (c .before .before .fill-words2 .ensures)
+returns-2 c =
+    let dirty = c .before .before .before .before .before .before in
+    let valid = dirty .before .before .before .before in
+    let tags = valid .before .before .before .before in
+    let made = tags .before .before in
+    let entry = made .before .before .before .before .before .before .before in
+    fresh-made (entry .args .g) (lent entry) (made .fresh .result) (made .before .before .sizes .ensures) (made .before .if1 .left)
+    (made .fresh .ensures) (tags .fill-words .ensures) (valid .clear-maps .ensures) (dirty .clear-maps2 .ensures) (c .before .before .fill-words2 .ensures)
 
 pub fresh-tables-spec : {M : Type 1} → statement M
 fresh-tables-spec =

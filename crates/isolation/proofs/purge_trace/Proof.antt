@@ -1,7 +1,19 @@
 -- `isolation::purge_trace` meets its contract. The invariant: the steps taken so far, and what the steps to come will add.
 use Prim.Native.Nat.{_-_}
 use native.Mathlib.Omega.{arith}
-use Rattle.isolation.proofs.PurgeLaws.{Taking, begin, turned, end, codes-long, arguments-long, fits-codes, fits-arguments, refused-arguments, refused-codes, refused-taken}
+use Rattle.isolation.proofs.PurgeLaws.{
+  Taking,
+  begin,
+  turned,
+  end,
+  codes-long,
+  arguments-long,
+  fits-codes,
+  fits-arguments,
+  refused-arguments,
+  refused-codes,
+  refused-taken,
+}
 use Rattle.isolation.proofs.purge_trace.Statement.{statement}
 use Rattle.isolation.proofs.purge_trace.Tie as tie
 
@@ -13,16 +25,27 @@ abbrev μ-loop : tie.MeasureT-loop
 μ-loop domain codes arguments kept-codes₀ kept-arguments₀ steps count₀ i₀ kept-codes kept-arguments count i = steps - i
 
 returns : tie.Need-returns Inv-loop μ-loop
-returns c = refused-arguments (c .before .before .before .before .before .args .domain) (c .before .before .before .before .before .args .codes .now) (c .before .before .before .before .before .args .arguments .now) (c .before .before .before .before .before .args .kept-codes .now) (c .before .before .before .before .before .args .kept-arguments .now) (c .if1 .taken)
+returns c = refused-arguments (c .before .before .before .before .before .args .domain) (c .before .before .before .before .before .args .codes .now)
+    (c .before .before .before .before .before .args .arguments .now) (c .before .before .before .before .before .args .kept-codes .now)
+    (c .before .before .before .before .before .args .kept-arguments .now) (c .if1 .taken)
 
 returns-2 : tie.Need-returns-2 Inv-loop μ-loop
-returns-2 c = refused-codes (c .before .before .before .before .before .before .args .domain) (c .before .before .before .before .before .before .args .codes .now) (c .before .before .before .before .before .before .args .arguments .now) (c .before .before .before .before .before .before .args .kept-codes .now) (c .before .before .before .before .before .before .args .kept-arguments .now) (c .before .if1 .left) (c .if2 .taken)
+returns-2 c = refused-codes (c .before .before .before .before .before .before .args .domain)
+    (c .before .before .before .before .before .before .args .codes .now) (c .before .before .before .before .before .before .args .arguments .now)
+    (c .before .before .before .before .before .before .args .kept-codes .now)
+    (c .before .before .before .before .before .before .args .kept-arguments .now) (c .before .if1 .left) (c .if2 .taken)
 
 returns-3 : tie.Need-returns-3 Inv-loop μ-loop
-returns-3 c = refused-taken (c .before .before .before .before .before .before .before .args .domain) (c .before .before .before .before .before .before .before .args .codes .now) (c .before .before .before .before .before .before .before .args .arguments .now) (c .before .before .before .before .before .before .before .args .kept-codes .now) (c .before .before .before .before .before .before .before .args .kept-arguments .now) (c .before .before .if1 .left) (c .before .if2 .left) (c .if3 .taken)
+returns-3 c = refused-taken (c .before .before .before .before .before .before .before .args .domain)
+    (c .before .before .before .before .before .before .before .args .codes .now)
+    (c .before .before .before .before .before .before .before .args .arguments .now)
+    (c .before .before .before .before .before .before .before .args .kept-codes .now)
+    (c .before .before .before .before .before .before .before .args .kept-arguments .now) (c .before .before .if1 .left) (c .before .if2 .left)
+    (c .if3 .taken)
 
 loop-holds : tie.Need-loop-holds Inv-loop μ-loop
-loop-holds c = begin (c .before .before .before .before .before .before .before .args .domain) (c .before .before .if1 .left) (c .before .if2 .left) (c .if3 .left)
+loop-holds c = begin (c .before .before .before .before .before .before .before .args .domain) (c .before .before .if1 .left) (c .before .if2 .left)
+    (c .if3 .left)
 
 mul-take-one : tie.Need-mul-take-one Inv-loop μ-loop
 mul-take-one c = omega arith
@@ -37,7 +60,10 @@ shared-slice-read-take-one-2 : tie.Need-shared-slice-read-take-one-2 Inv-loop μ
 shared-slice-read-take-one-2 c = rw (c .before .before .before .before .before .before .if1 .left) (c .before .before .loop-test .taken)
 
 take-one-requires : tie.Need-take-one-requires Inv-loop μ-loop
-take-one-requires c κs = (fits-codes (c .before .before .before .before .before .loop .inv) (c .before .before .before .before .loop-test .taken), fits-arguments (c .before .before .before .before .before .loop .inv) (c .before .before .before .before .loop-test .taken))
+take-one-requires c κs = (
+  fits-codes (c .before .before .before .before .before .loop .inv) (c .before .before .before .before .loop-test .taken),
+  fits-arguments (c .before .before .before .before .before .loop .inv) (c .before .before .before .before .loop-test .taken),
+)
 
 add-i : tie.Need-add-i Inv-loop μ-loop
 add-i c = omega arith
@@ -46,7 +72,9 @@ loop-less : tie.Need-loop-less Inv-loop μ-loop
 loop-less c = omega arith
 
 loop-again : tie.Need-loop-again Inv-loop μ-loop
-loop-again c = turned (c .before .before .before .before .before .before .before .before .before .before .loop .inv) (c .before .before .before .before .before .before .before .before .before .loop-test .taken) (c .before .before .before .before .take-one .result) (c .before .before .before .before .take-one .ensures)
+loop-again c = turned (c .before .before .before .before .before .before .before .before .before .before .loop .inv)
+    (c .before .before .before .before .before .before .before .before .before .loop-test .taken) (c .before .before .before .before .take-one .result)
+    (c .before .before .before .before .take-one .ensures)
 
 same-length : tie.Need-same-length Inv-loop μ-loop
 same-length c = codes-long (c .before .loop .inv)

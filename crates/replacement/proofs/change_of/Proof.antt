@@ -22,7 +22,11 @@ returns-2 : tie.Need-returns-2
 unfolding changeOf
 returns-2 c =
     let a = c .before .before .before .before .args in
-    rw (sym (c .before .before .before .in-limits .ensures) ∙ c .before .before .if1 .taken, either-reach (a .ways) (a .old) (a .new) ∙ sym (c .before .fits2 .ensures) ∙ c .if2 .left)
+    rw (
+      sym (c .before .before .before .in-limits .ensures) ∙ c .before .before .if1 .taken,
+      either-reach (a .ways) (a .old) (a .new)
+          ∙ sym (c .before .fits2 .ensures) ∙ c .if2 .left,
+    )
 
 change-requires : tie.Need-change-requires
 change-requires c κs = search needs
@@ -31,7 +35,13 @@ returns-3 : tie.Need-returns-3
 unfolding changeOf
 returns-3 c =
     let a = c .before .before .before .before .before .before .args in
-    rw (sym (c .before .before .before .before .before .in-limits .ensures) ∙ c .before .before .before .before .if1 .taken, either-reach (a .ways) (a .old) (a .new) ∙ sym (c .before .before .before .fits2 .ensures) ∙ c .before .before .if2 .taken, c .before .if3 .taken)
+    rw (
+      sym (c .before .before .before .before .before .in-limits .ensures)
+          ∙ c .before .before .before .before .if1 .taken,
+      either-reach (a .ways) (a .old) (a .new) ∙ sym (c .before .before .before .fits2 .ensures)
+          ∙ c .before .before .if2 .taken,
+      c .before .if3 .taken,
+    )
     (ap Clear (c .change .ensures))
 
 change-requires-2 : tie.Need-change-requires-2
@@ -42,7 +52,12 @@ unfolding changeOf
 returns-4 c =
     let a = c .before .before .before .before .before .before .args in
     let limits = sym (c .before .before .before .before .before .in-limits .ensures) ∙ c .before .before .before .before .if1 .taken in
-    rw (limits, either-reach (a .ways) (a .old) (a .new) ∙ sym (c .before .before .before .fits2 .ensures) ∙ c .before .before .if2 .taken, one (a .ways) (a .rule) limits (c .before .if3 .left))
+    rw (
+      limits,
+      either-reach (a .ways) (a .old) (a .new) ∙ sym (c .before .before .before .fits2 .ensures)
+          ∙ c .before .before .if2 .taken,
+      one (a .ways) (a .rule) limits (c .before .if3 .left),
+    )
     (ap Raise (c .change2 .ensures))
 
 pub change-of-spec : {M : Type 1} → statement M

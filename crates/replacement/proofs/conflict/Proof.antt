@@ -22,7 +22,11 @@ returns-2 : tie.Need-returns-2
 unfolding sharesOf
 returns-2 c =
     let a = c .before .before .before .before .args in
-    rw (sym (c .before .before .before .in-limits .ensures) ∙ c .before .before .if1 .taken, either-reach (a .ways) (a .map) (a .other) ∙ sym (c .before .fits2 .ensures) ∙ c .if2 .left)
+    rw (
+      sym (c .before .before .before .in-limits .ensures) ∙ c .before .before .if1 .taken,
+      either-reach (a .ways) (a .map) (a .other)
+          ∙ sym (c .before .fits2 .ensures) ∙ c .if2 .left,
+    )
 
 returns-3 : tie.Need-returns-3
 returns-3 c =

@@ -28,7 +28,8 @@ returns-3 c =
     let a = c .before .before .before .before .args in
     let limits = sym (c .before .before .before .in-limits .ensures) ∙ c .before .before .if1 .taken in
     fresh-given (a .ways) (a .rule) limits
-    (c .fresh .ensures ∙ nru-fresh (a .ways) (ways (a .ways) (a .rule) limits) ∙ ap (λ (R : Rule). R .fresh) (is-nru (a .ways) (a .rule) limits (c .before .if2 .left)))
+    (c .fresh .ensures ∙ nru-fresh (a .ways) (ways (a .ways) (a .rule) limits)
+    ∙ ap (λ (R : Rule). R .fresh) (is-nru (a .ways) (a .rule) limits (c .before .if2 .left)))
 
 pub fresh-spec : {M : Type 1} → statement M
 fresh-spec = tie.close (tie.spec in-limits-requires returns returns-2 fresh-requires returns-3)

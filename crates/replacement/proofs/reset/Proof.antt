@@ -23,7 +23,11 @@ returns-2 : tie.Need-returns-2
 unfolding resetOf
 returns-2 c =
     let a = c .before .before .before .before .args in
-    rw (sym (c .before .before .before .in-limits .ensures) ∙ c .before .before .if1 .taken, either-reach (a .ways) (a .old) (a .new) ∙ sym (c .before .fits2 .ensures) ∙ c .if2 .left)
+    rw (
+      sym (c .before .before .before .in-limits .ensures) ∙ c .before .before .if1 .taken,
+      either-reach (a .ways) (a .old) (a .new)
+          ∙ sym (c .before .fits2 .ensures) ∙ c .if2 .left,
+    )
 
 change-of-requires : tie.Need-change-of-requires
 change-of-requires c κs = search needs
@@ -36,7 +40,8 @@ returns-3 c =
     let entry = c .before .before .before .before .before .before in
     let a = entry .args in
     reset-given (a .ways) (a .rule) (a .word) (a .old) (a .new) (entry .fits .old .fits) (entry .fits .new .fits)
-    (sym (c .before .before .before .before .before .in-limits .ensures) ∙ c .before .before .before .before .if1 .taken) (not-true _ (sym (c .before .before .before .fits2 .ensures) ∙ c .before .before .if2 .taken))
+    (sym (c .before .before .before .before .before .in-limits .ensures) ∙ c .before .before .before .before .if1 .taken)
+    (not-true _ (sym (c .before .before .before .fits2 .ensures) ∙ c .before .before .if2 .taken))
     (c .changed .ensures ∙ ap (λ (x : Change). changeBy x (a .word)) (c .before .change-of .ensures))
 
 pub reset-spec : {M : Type 1} → statement M

@@ -28,7 +28,12 @@ returns-3 : tie.Need-returns-3
 unfolding touchOf
 returns-3 c =
     let a = c .before .before .before .before .before .args in
-    rw (sym (c .before .before .before .before .in-limits .ensures) ∙ c .before .before .before .if1 .taken, sym (c .before .before .fits2 .ensures) ∙ c .before .if2 .taken, le-ltb (a .way) (a .ways) (c .if3 .taken))
+    rw (
+      sym (c .before .before .before .before .in-limits .ensures) ∙ c .before .before .before .if1 .taken,
+      sym (c .before .before .fits2 .ensures)
+          ∙ c .before .if2 .taken,
+      le-ltb (a .way) (a .ways) (c .if3 .taken),
+    )
 
 touch-requires : tie.Need-touch-requires
 touch-requires c κs = search needs

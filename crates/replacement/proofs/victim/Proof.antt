@@ -28,7 +28,11 @@ fits-requires c κs = search needs
 
 returns-3 : tie.Need-returns-3
 unfolding victimOf
-returns-3 c = rw (sym (c .before .before .before .before .in-limits .ensures) ∙ c .before .before .before .if1 .taken, sym (c .before .fits2 .ensures) ∙ c .if3 .left)
+returns-3 c = rw (
+  sym (c .before .before .before .before .in-limits .ensures) ∙ c .before .before .before .if1 .taken,
+  sym (c .before .fits2 .ensures)
+      ∙ c .if3 .left,
+)
 
 victim-requires : tie.Need-victim-requires
 victim-requires c κs = search needs

@@ -22,14 +22,18 @@ as-read-requires c κs = search needs
 serve-requires : tie.Need-serve-requires
 serve-requires c κs =
     let a = c .before .before .before .before .before .args in
-    rw (c .before .as-read .ensures) (fill-usable (length (a .tags .now)) (a .rule) (a .maps) (sym (c .before .before .before .in-limits .ensures) ∙ c .before .before .if1 .taken))
+    rw (c .before .as-read .ensures) (fill-usable (length (a .tags .now)) (a .rule) (a .maps) (sym (c .before .before .before .in-limits .ensures)
+    ∙ c .before .before .if1 .taken))
 
 same-length : tie.Need-same-length
 same-length c = search needs
 
 returns-2 : tie.Need-returns-2
 unfolding accessOf
-returns-2 c = rw ((sym (c .before .before .before .before .before .before .in-limits .ensures) ∙ c .before .before .before .before .before .if1 .taken), ← (c .before .before .before .before .as-read .ensures)) (c .before .before .serve .ensures)
+returns-2 c = rw (
+  (sym (c .before .before .before .before .before .before .in-limits .ensures) ∙ c .before .before .before .before .before .if1 .taken),
+  ← (c .before .before .before .before .as-read .ensures),
+) (c .before .before .serve .ensures)
 
 pub access-spec : {M : Type 1} → statement M
 access-spec =

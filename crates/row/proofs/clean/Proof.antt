@@ -31,7 +31,8 @@ returns-2 c =
     let row = rowOf (a .tags .now) (a .lines) in
     let limits = sym (c .before .before .before .before .before .before .in-limits .ensures) ∙ c .before .before .before .before .before .if1 .taken in
     rw limits
-    (c .before .before .swept .ensures ∙ ap (λ (s : Sweep). sweepBy s row) (c .before .before .before .sweep-of .ensures) ∙ sweep-cleans (a .rule) (a .old) (a .new) row limits)
+    (c .before .before .swept .ensures ∙ ap (λ (s : Sweep). sweepBy s row) (c .before .before .before .sweep-of .ensures)
+    ∙ sweep-cleans (a .rule) (a .old) (a .new) row limits)
 
 pub clean-spec : {M : Type 1} → statement M
 clean-spec =

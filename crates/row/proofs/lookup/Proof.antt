@@ -29,7 +29,8 @@ returns-2 c =
 returns-3 : tie.Need-returns-3
 returns-3 c =
     let a = c .before .before .before .before .before .before .args in
-    lookup-absent (a .tags .now) (a .valid) (a .hit) (a .tag) (sym (c .before .before .before .before .is-ways .ensures) ∙ c .before .before .before .if1 .taken)
+    lookup-absent (a .tags .now) (a .valid) (a .hit) (a .tag) (sym (c .before .before .before .before .is-ways .ensures)
+    ∙ c .before .before .before .if1 .taken)
     (c .before .before .as-read .result) (c .before .before .as-read .ensures) (c .before .hit-way .ensures) (c .if2 .left)
 
 pub lookup-spec : {M : Type 1} → statement M

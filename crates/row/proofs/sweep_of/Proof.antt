@@ -16,7 +16,8 @@ change-of-requires c κs = search needs
 returns : tie.Need-returns
 returns c =
     let a = c .before .before .before .before .before .args in
-    sweep-is (a .ways) (a .rule) (a .old) (a .new) (c .before .before .before .before .as-read .ensures) (c .before .before .before .as-read2 .ensures) (c .change-of .ensures)
+    sweep-is (a .ways) (a .rule) (a .old) (a .new) (c .before .before .before .before .as-read .ensures) (c .before .before .before .as-read2 .ensures)
+    (c .change-of .ensures)
 
 pub sweep-of-spec : {M : Type 1} → statement M
 sweep-of-spec = tie.close (tie.spec as-read-requires as-read-requires-2 change-of-requires returns)

@@ -1,8 +1,9 @@
 -- `stepper::put_row` meets its contract.
 use mathlib.Core.Path.{_∙_}
+use native.Mathlib.Nat.{le-of-lt}
 use lib.Dec.{lit≤}
 use borrow.Author.Needs.{needs}
-use Rattle.stepper.proofs.RowLaws.{row-inside, field-room, tags-room, row-short}
+use Rattle.stepper.proofs.RowLaws.{set-inside, map-fits, word-fits, row-inside, field-room, tags-room, row-short}
 use Rattle.stepper.proofs.put_row.Statement.{statement}
 use Rattle.stepper.proofs.put_row.Tie as tie
 
@@ -10,13 +11,19 @@ put-requires : tie.Need-put-requires
 put-requires c κs = search needs
 
 mul-map-value : tie.Need-mul-map-value
-mul-map-value c = search needs
+mul-map-value c =
+    let first = c .before .before in
+    let entry = first .before .before .before .before .before .before .before in
+    map-fits (entry .pre .1 .0)
 
 shared-slice-read-map-value : tie.Need-shared-slice-read-map-value
-shared-slice-read-map-value c = search needs
+shared-slice-read-map-value c =
+    let first = c .before .before .before in
+    let entry = first .before .before .before .before .before .before .before in
+    set-inside (entry .args .set) (entry .pre .0 .valid-long)
 
 map-value-requires : tie.Need-map-value-requires
-map-value-requires c κs = search needs
+map-value-requires c κs = tt
 
 add-put : tie.Need-add-put
 add-put c = search needs
@@ -28,13 +35,21 @@ put-requires-2 c κs =
     field-room (entry .args .at) 2 2 (entry .pre .1 .1 .1) (first .put .kept .1 .1 .0) (lit≤ tt)
 
 mul-map-value-2 : tie.Need-mul-map-value-2
-mul-map-value-2 c = search needs
+mul-map-value-2 c =
+    let second = c .before .before in
+    let first = second .before .before .before .before .before .before in
+    let entry = first .before .before .before .before .before .before .before in
+    map-fits (entry .pre .1 .0)
 
 shared-slice-read-map-value-2 : tie.Need-shared-slice-read-map-value-2
-shared-slice-read-map-value-2 c = search needs
+shared-slice-read-map-value-2 c =
+    let second = c .before .before .before in
+    let first = second .before .before .before .before .before .before in
+    let entry = first .before .before .before .before .before .before .before in
+    set-inside (entry .args .set) (entry .pre .0 .dirty-long)
 
 map-value-requires-2 : tie.Need-map-value-requires-2
-map-value-requires-2 c κs = search needs
+map-value-requires-2 c κs = tt
 
 add-put-2 : tie.Need-add-put-2
 add-put-2 c = search needs
@@ -47,10 +62,20 @@ put-requires-3 c κs =
     field-room (entry .args .at) 4 2 (entry .pre .1 .1 .1) (second .put2 .kept .1 .1 .0 ∙ first .put .kept .1 .1 .0) (lit≤ tt)
 
 mul-put : tie.Need-mul-put
-mul-put c = search needs
+mul-put c =
+    let third = c .before .before in
+    let second = third .before .before .before .before .before .before in
+    let first = second .before .before .before .before .before .before in
+    let entry = first .before .before .before .before .before .before .before in
+    word-fits (entry .pre .1 .0)
 
 shared-slice-read-put : tie.Need-shared-slice-read-put
-shared-slice-read-put c = search needs
+shared-slice-read-put c =
+    let third = c .before .before .before in
+    let second = third .before .before .before .before .before .before in
+    let first = second .before .before .before .before .before .before in
+    let entry = first .before .before .before .before .before .before .before in
+    set-inside (entry .args .set) (entry .pre .0 .words-long)
 
 add-put-3 : tie.Need-add-put-3
 add-put-3 c = search needs
@@ -65,7 +90,13 @@ put-requires-4 c κs =
     (lit≤ tt)
 
 start-of-requires : tie.Need-start-of-requires
-start-of-requires c κs = search needs
+start-of-requires c κs =
+    let fourth = c .before .before in
+    let third = fourth .before .before .before .before .before in
+    let second = third .before .before .before .before .before .before in
+    let first = second .before .before .before .before .before .before in
+    let entry = first .before .before .before .before .before .before .before in
+    (le-of-lt (entry .pre .1 .0), entry .pre .1 .1 .0)
 
 add-put-tags : tie.Need-add-put-tags
 add-put-tags c = search needs

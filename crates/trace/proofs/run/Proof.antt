@@ -7,15 +7,15 @@ use Rattle.verdict.specs.Geometry.{Lengths}
 use Rattle.cache.specs.Step.{tablesOf, outcome}
 use Rattle.command.specs.Command.{commandIs}
 use Rattle.tracefile.proofs.PlaceLaws.{place-fits, next-fits}
+use Rattle.trace.specs.Inside.{stateOf}
 use Rattle.trace.proofs.RunLaws.{Running, run-begin, run-room, run-turned, run-short, run-end}
 use Rattle.trace.proofs.run.Statement.{statement}
 use Rattle.trace.proofs.run.Tie as tie
 
 abbrev Inv-loop : tie.InvT-loop
 Inv-loop g file steps tags₀ valid₀ dirty₀ words₀ out₀ at last₀ next₀ i₀ tags valid dirty words out last next i =
-    Running g file steps
-    (record { tables = tablesOf tags₀ valid₀ dirty₀ words₀; domains = last₀ .domains }) out₀ at
-    (record { tables = tablesOf tags valid dirty words; domains = last .domains }) out next i
+    Running g file steps (stateOf (tablesOf tags₀ valid₀ dirty₀ words₀) (last₀ .domains)) out₀ at
+    (stateOf (tablesOf tags valid dirty words) (last .domains)) out next i
 
 abbrev μ-loop : tie.MeasureT-loop
 μ-loop g file steps tags₀ valid₀ dirty₀ words₀ out₀ at last₀ next₀ i₀ tags valid dirty words out last next i = steps - i

@@ -41,10 +41,12 @@ returns-3 : tie.Need-returns-3
 unfolding sharesOf
 returns-3 c =
     let entry = c .before .before .before .before .before .before .before .before in
-    let first = sym (c .before .before .before .before .before .before .before .takes .ensures) ∙ c .before .before .before .before .before .before .if1 .taken in
+    let first = sym (c .before .before .before .before .before .before .before .takes .ensures)
+    ∙ c .before .before .before .before .before .before .if1 .taken in
     let second = sym (c .before .before .before .before .before .takes2 .ensures) ∙ c .before .before .before .before .if2 .taken in
     rw (first, second)
-    (shares-word (entry .args .ways) (bit (entry .args .map)) (bit (entry .args .other)) (omega (arith, takes-sized (entry .args .ways) (entry .args .map) first .most))
+    (shares-word (entry .args .ways) (bit (entry .args .map)) (bit (entry .args .other))
+    (omega (arith, takes-sized (entry .args .ways) (entry .args .map) first .most))
     (c .before .before .before .nodes-of .ensures .free-is) (c .before .before .nodes-of2 .ensures .free-is))
 
 pub shares-spec : {M : Type 1} → statement M

@@ -36,7 +36,8 @@ cast-mask c = search needs
 walked-requires : tie.Need-walked-requires
 walked-requires c κs =
     let entry = c .before .before .before .before .before .before in
-    takes-sized (entry .args .ways) (entry .args .map) (sym (c .before .before .before .before .before .takes .ensures) ∙ c .before .before .before .before .if1 .taken)
+    takes-sized (entry .args .ways) (entry .args .map) (sym (c .before .before .before .before .before .takes .ensures)
+    ∙ c .before .before .before .before .if1 .taken)
 
 returns-2 : tie.Need-returns-2
 unfolding victimOf

@@ -23,7 +23,11 @@ returns-4 c = rw (lt-ltb (c .before .before .args .kind) 3 (omega arith), ne-eqb
 
 returns-5 : tie.Need-returns-5
 unfolding kindOf
-returns-5 c = rw (le-ltb (c .before .before .args .kind) 3 (omega (arith, c .if1 .left, c .before .match .rest .0 .0 .1)), ne-eqb (c .before .before .args .kind) 3 (c .before .match .rest .0 .1), ne-eqb (c .before .before .args .kind) 16 (c .before .match .rest .1))
+returns-5 c = rw (
+  le-ltb (c .before .before .args .kind) 3 (omega (arith, c .if1 .left, c .before .match .rest .0 .0 .1)),
+  ne-eqb (c .before .before .args .kind) 3 (c .before .match .rest .0 .1),
+  ne-eqb (c .before .before .args .kind) 16 (c .before .match .rest .1),
+)
 
 pub kind-of-spec : {M : Type 1} → statement M
 kind-of-spec = tie.close (tie.spec returns returns-2 returns-3 returns-4 returns-5)

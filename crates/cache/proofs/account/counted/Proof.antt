@@ -32,10 +32,19 @@ add-next-4 : tie.Need-add-next-4
 add-next-4 c = omega (arith, c .struct-known4 .given .1 .0, room (c .before .before .before .before .args .c) (c .before .before .before .before .pre) .misses)
 
 add-next-5 : tie.Need-add-next-5
-add-next-5 c = omega (arith, c .struct-known5 .given .1 .1 .0, room (c .before .before .before .before .before .args .c) (c .before .before .before .before .before .pre) .evicted)
+add-next-5 c = omega (
+  arith,
+  c .struct-known5 .given .1 .1 .0,
+  room (c .before .before .before .before .before .args .c)
+      (c .before .before .before .before .before .pre) .evicted,
+)
 
 with-dirty-requires : tie.Need-with-dirty-requires
-with-dirty-requires c κs = omega (arith, c .struct-known5 .given .1 .1 .1 .0, room (c .before .before .before .before .before .args .c) (c .before .before .before .before .before .pre) .written)
+with-dirty-requires c κs = omega (
+  arith,
+  c .struct-known5 .given .1 .1 .1 .0,
+  room (c .before .before .before .before .before .args .c) (c .before .before .before .before .before .pre) .written,
+)
 
 enum-known-answer-4 : tie.Need-enum-known-answer-4
 enum-known-answer-4 c = search needs
@@ -44,7 +53,12 @@ with-dirty-requires-2 : tie.Need-with-dirty-requires-2
 with-dirty-requires-2 c κs = omega (arith, c .before .before .before .good, room (c .before .before .before .args .c) (c .before .before .before .pre) .written)
 
 add-next-6 : tie.Need-add-next-6
-add-next-6 c = omega (arith, c .struct-known6 .given .1 .1 .1 .1 .0, room (c .before .before .before .before .before .args .c) (c .before .before .before .before .before .pre) .flushed)
+add-next-6 c = omega (
+  arith,
+  c .struct-known6 .given .1 .1 .1 .1 .0,
+  room (c .before .before .before .before .before .args .c)
+      (c .before .before .before .before .before .pre) .flushed,
+)
 
 returns : tie.Need-returns
 unfolding counted

@@ -21,15 +21,20 @@ abbrev lent : tie.Start Inv-loop μ-loop → Tables
 lent c = tablesOf (c .args .tags .now) (c .args .valid .now) (c .args .dirty .now) (c .args .words .now)
 
 -- after the sweep of one more set
-next : (c : tie.After-sweep-set Inv-loop μ-loop) → Sweeping (c .before .before .before .before .before .before .before .before .before .before .before .args .g) (c .before .before .before .before .before .before .before .before .before .before .before .args .sweep)
-    (lent (c .before .before .before .before .before .before .before .before .before .before .before)) (tablesOf (c .sweep-set .last .1 .0) (c .sweep-set .last .1 .1 .0) (c .sweep-set .last .1 .1 .1 .0) (c .sweep-set .last .1 .1 .1 .1 .0))
-    (c .before .before .before .before .before .before .loop .dropped + c .sweep-set .result .dropped) (c .before .before .before .before .before .before .loop .dirt + c .sweep-set .result .dirty)
+next : (c : tie.After-sweep-set Inv-loop μ-loop)
+    → Sweeping (c .before .before .before .before .before .before .before .before .before .before .before .args .g)
+    (c .before .before .before .before .before .before .before .before .before .before .before .args .sweep)
+    (lent (c .before .before .before .before .before .before .before .before .before .before .before))
+    (tablesOf (c .sweep-set .last .1 .0) (c .sweep-set .last .1 .1 .0) (c .sweep-set .last .1 .1 .1 .0) (c .sweep-set .last .1 .1 .1 .1 .0))
+    (c .before .before .before .before .before .before .loop .dropped + c .sweep-set .result .dropped)
+    (c .before .before .before .before .before .before .loop .dirt + c .sweep-set .result .dirty)
     (c .before .before .before .before .before .before .loop .set + 1)
 next c =
     let entry = c .before .before .before .before .before .before .before .before .before .before .before in
     let l = c .before .before .before .before .before .before .loop in
     turned (entry .args .g) (entry .args .sweep) (lent entry) (tablesOf (l .tags) (l .valid) (l .dirty) (l .words)) (entry .pre) (l .inv)
-    (c .before .before .before .before .before .loop-test .taken) (tablesOf (c .sweep-set .last .1 .0) (c .sweep-set .last .1 .1 .0) (c .sweep-set .last .1 .1 .1 .0) (c .sweep-set .last .1 .1 .1 .1 .0)) (c .sweep-set .result) (c .sweep-set .ensures)
+    (c .before .before .before .before .before .loop-test .taken) (tablesOf (c .sweep-set .last .1 .0) (c .sweep-set .last .1 .1 .0)
+    (c .sweep-set .last .1 .1 .1 .0) (c .sweep-set .last .1 .1 .1 .1 .0)) (c .sweep-set .result) (c .sweep-set .ensures)
 
 loop-holds : tie.Need-loop-holds Inv-loop μ-loop
 loop-holds c =
@@ -41,24 +46,30 @@ sweep-set-requires c κs = (c .before .before .before .before .before .loop .inv
 
 add-dropped : tie.Need-add-dropped Inv-loop μ-loop
 add-dropped c =
-    let done = next (c .before .before .before .before .before .before .before .before .before) in
-    let entry = c .before .before .before .before .before .before .before .before .before .before .before .before .before .before .before .before .before .before .before .before in
+    let called = c .before .before .before .before .before .before .before .before .before in
+    let done = next called in
+    let entry = called .before .before .before .before .before .before .before .before .before .before .before in
     omega (arith, done .few, done .within, entry .pre .limited .most-sets)
 
 add-dirt : tie.Need-add-dirt Inv-loop μ-loop
 add-dirt c =
-    let done = next (c .before .before .before .before .before .before .before .before .before .before) in
-    let entry = c .before .before .before .before .before .before .before .before .before .before .before .before .before .before .before .before .before .before .before .before .before in
+    let called = c .before .before .before .before .before .before .before .before .before .before in
+    let done = next called in
+    let entry = called .before .before .before .before .before .before .before .before .before .before .before in
     omega (arith, done .few-dirty, done .within, entry .pre .limited .most-sets)
 
 add-set : tie.Need-add-set Inv-loop μ-loop
 add-set c =
-    let done = next (c .before .before .before .before .before .before .before .before .before .before) in
-    let entry = c .before .before .before .before .before .before .before .before .before .before .before .before .before .before .before .before .before .before .before .before .before in
+    let called = c .before .before .before .before .before .before .before .before .before .before in
+    let done = next called in
+    let entry = called .before .before .before .before .before .before .before .before .before .before .before in
     omega (arith, done .within, entry .pre .limited .most-sets)
 
 loop-less : tie.Need-loop-less Inv-loop μ-loop
-loop-less c = omega (arith, c .before .before .before .before .before .before .before .before .before .before .before .before .before .before .before .loop-test .taken)
+loop-less c = omega (
+  arith,
+  c .before .before .before .before .before .before .before .before .before .before .before .before .before .before .before .loop-test .taken,
+)
 
 loop-again : tie.Need-loop-again Inv-loop μ-loop
 loop-again c = next (c .before .before .before .before .before .before .before .before .before .before)

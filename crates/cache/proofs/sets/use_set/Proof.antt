@@ -81,8 +81,13 @@ returns c =
     let a = c .before .before .before .before .before .before .before .before .before .before .before .before .before .before .args in
     let p = c .before .before .before .before .before .before .before .before .before .place-of .ensures in
     rw (← (p .set-is), ← (p .tag-is))
-    (row-done (a .g .ways) (c .before .before .before .before .before .before .before .before .before .place-of .result .set) (c .before .before .before .before .before .before .before .before .span-of .result .start) (c .before .before .before .before .before .before .before .before .span-of .result .stop) (workOf (a .flush) (a .store) (a .g .rule) (a .maps) (c .before .before .before .before .before .before .before .before .before .place-of .result .tag))
-    (a .tags .now) (a .valid .now) (a .dirty .now) (a .words .now) (c .before .before .before .on-row .result) (c .before .before .before .on-row .last .0) (c .before .before .before .before .before .before .before .before .span-of .ensures .start-is) (c .before .before .before .before .before .before .before .before .span-of .ensures .stop-is) (c .before .before .before .on-row .ensures))
+    (row-done (a .g .ways) (c .before .before .before .before .before .before .before .before .before .place-of .result .set)
+    (c .before .before .before .before .before .before .before .before .span-of .result .start)
+    (c .before .before .before .before .before .before .before .before .span-of .result .stop)
+    (workOf (a .flush) (a .store) (a .g .rule) (a .maps) (c .before .before .before .before .before .before .before .before .before .place-of .result .tag))
+    (a .tags .now) (a .valid .now) (a .dirty .now) (a .words .now) (c .before .before .before .on-row .result) (c .before .before .before .on-row .last .0)
+    (c .before .before .before .before .before .before .before .before .span-of .ensures .start-is)
+    (c .before .before .before .before .before .before .before .before .span-of .ensures .stop-is) (c .before .before .before .on-row .ensures))
 
 pub use-set-spec : {M : Type 1} → statement M
 use-set-spec =

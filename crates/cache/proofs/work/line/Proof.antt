@@ -19,7 +19,8 @@ turned-down-requires c κs = search needs
 returns : tie.Need-returns
 returns c =
     let entry = c .before .before .before .before .before .before .before in
-    line-down (entry .args .g) (entry .args .own) (entry .args .flush) (entry .args .store) (entry .args .address) (lent entry) (c .before .before .line-refusal .ensures)
+    line-down (entry .args .g) (entry .args .own) (entry .args .flush) (entry .args .store) (entry .args .address) (lent entry)
+    (c .before .before .line-refusal .ensures)
     (c .before .if1 .taken) (c .turned-down .ensures)
 
 use-set-requires : tie.Need-use-set-requires
@@ -50,7 +51,8 @@ returns-2 c =
     let entry = asked .before .before .before .before .before in
     let done = c .before .before .before .before .before .before .before .before .before .use-set in
     line-done (entry .args .g) (entry .args .own) (entry .args .flush) (entry .args .store) (entry .args .address) (lent entry) (asked .line-refusal .ensures)
-    (c .before .before .before .before .before .before .before .before .before .before .before .before .before .before .if1 .left) (done .ensures) (c .after-use .ensures)
+    (c .before .before .before .before .before .before .before .before .before .before .before .before .before .before .if1 .left) (done .ensures)
+    (c .after-use .ensures)
 
 pub line-spec : {M : Type 1} → statement M
 line-spec =

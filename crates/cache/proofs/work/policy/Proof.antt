@@ -19,7 +19,8 @@ turned-down-requires c κs = search needs
 returns : tie.Need-returns
 returns c =
     let entry = c .before .before .before .before .before .before .before in
-    policy-down (entry .args .g) (entry .args .own) (entry .args .policies) (entry .args .domain) (entry .args .argument) (lent entry) (c .before .before .policy-refusal .ensures)
+    policy-down (entry .args .g) (entry .args .own) (entry .args .policies) (entry .args .domain) (entry .args .argument) (lent entry)
+    (c .before .before .policy-refusal .ensures)
     (c .before .if1 .taken) (c .turned-down .ensures)
 
 new-maps-requires : tie.Need-new-maps-requires
@@ -48,11 +49,13 @@ same-length-4 c = search needs
 
 returns-2 : tie.Need-returns-2
 returns-2 c =
-    let asked = c .before .before .before .before .before .before .before .before .before .before .before .before .before .before .before .before .before in
+    let swept = c .before .before .before .before .before .before .before .before .before in
+    let worked = swept .before .before .before .before .before in
+    let asked = worked .before .before .before in
     let entry = asked .before .before .before .before .before in
-    policy-done (entry .args .g) (entry .args .own) (entry .args .policies) (entry .args .domain) (entry .args .argument) (lent entry) (asked .policy-refusal .ensures)
-    (entry .pre) (c .before .before .before .before .before .before .before .before .before .before .before .before .before .before .before .before .if1 .left) (c .before .before .before .before .before .before .before .before .before .before .before .before .before .before .before .new-maps .ensures) (c .before .before .before .before .before .before .before .before .before .before .before .before .before .before .sweep-of .ensures)
-    (c .before .before .before .before .before .before .before .before .before .sweep-sets .ensures) (c .after-change .ensures)
+    policy-done (entry .args .g) (entry .args .own) (entry .args .policies) (entry .args .domain) (entry .args .argument) (lent entry)
+    (asked .policy-refusal .ensures) (entry .pre) (worked .before .before .if1 .left) (worked .before .new-maps .ensures) (worked .sweep-of .ensures)
+    (swept .sweep-sets .ensures) (c .after-change .ensures)
 
 pub policy-spec : {M : Type 1} → statement M
 policy-spec =

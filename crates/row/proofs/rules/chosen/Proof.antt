@@ -22,7 +22,8 @@ enum-known-reply c = search needs
 returns : tie.Need-returns
 returns c =
     let start = c .before .before .before .before in
-    chosen-is (start .args .word) (c .before .before .before .victim .result) (start .pre .0) (start .pre .1) (c .before .before .before .victim .ensures) (c .before .reply .given .1)
+    chosen-is (start .args .word) (c .before .before .before .victim .result) (start .pre .0) (start .pre .1) (c .before .before .before .victim .ensures)
+    (c .before .reply .given .1)
 
 -- no other answer than a way
 no-other : (_≡_ {A = ℕ} 0 1) ⊎ ((_≡_ {A = ℕ} 0 2) ⊎ ((_≡_ {A = ℕ} 0 3) ⊎ (_≡_ {A = ℕ} 0 4))) → ⊥

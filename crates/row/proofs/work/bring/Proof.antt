@@ -22,7 +22,8 @@ same-length c = search needs
 returns : tie.Need-returns
 returns c =
     let a = c .before .before .before .before .before .args in
-    bring-fill (a .rule) (a .tag) (a .store) (a .tags .now) (a .lines) (a .fill) (c .before .before .before .before .before .pre .0) (c .before .before .before .struct-known .given .0 .fits)
+    bring-fill (a .rule) (a .tag) (a .store) (a .tags .now) (a .lines) (a .fill) (c .before .before .before .before .before .pre .0)
+    (c .before .before .before .struct-known .given .0 .fits)
     (c .before .before .lowest-way .ensures) (c .before .if1 .taken) (c .filled .ensures)
 
 evict-requires : tie.Need-evict-requires
@@ -34,7 +35,9 @@ same-length-2 c = search needs
 returns-2 : tie.Need-returns-2
 returns-2 c =
     let a = c .before .before .before .before .before .before .before .before .args in
-    bring-evict (a .rule) (a .tag) (a .store) (a .tags .now) (a .lines) (a .fill) (c .before .before .before .before .before .before .before .before .pre .0) (c .before .before .before .before .before .before .struct-known .given .0 .fits)
+    bring-evict (a .rule) (a .tag) (a .store) (a .tags .now) (a .lines) (a .fill)
+    (c .before .before .before .before .before .before .before .before .pre .0)
+    (c .before .before .before .before .before .before .struct-known .given .0 .fits)
     (c .before .before .before .before .before .lowest-way .ensures) (c .before .before .before .before .if1 .left) (c .before .before .evict .ensures)
 
 pub bring-spec : {M : Type 1} → statement M

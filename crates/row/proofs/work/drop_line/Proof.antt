@@ -18,7 +18,8 @@ returns : tie.Need-returns
 unfolding hitWay matches
 returns c =
     let a = c .before .before .before .before .before .args in
-    flush-hit (a .maps) (a .tag) (a .tags .now) (a .lines) (c .before .before .before .hit-way .ensures) (c .before .before .if1 .taken) (c .before .has .ensures) (c .flushed .ensures)
+    flush-hit (a .maps) (a .tag) (a .tags .now) (a .lines) (c .before .before .before .hit-way .ensures) (c .before .before .if1 .taken)
+    (c .before .has .ensures) (c .flushed .ensures)
 
 returns-2 : tie.Need-returns-2
 unfolding hitWay matches

@@ -31,7 +31,8 @@ same-length c = search needs
 returns : tie.Need-returns
 returns c =
     let a = c .before .before .before .before .before .args in
-    evict-is (a .rule) (a .tag) (a .store) (a .tags .now) (a .lines) (a .fill) (c .before .before .before .chosen .result) (c .before .before .before .chosen .ensures) (c .before .has .ensures) (c .filled .ensures)
+    evict-is (a .rule) (a .tag) (a .store) (a .tags .now) (a .lines) (a .fill) (c .before .before .before .chosen .result)
+    (c .before .before .before .chosen .ensures) (c .before .has .ensures) (c .filled .ensures)
 
 pub evict-spec : {M : Type 1} → statement M
 evict-spec =

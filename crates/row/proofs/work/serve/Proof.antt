@@ -29,12 +29,16 @@ returns-2 : tie.Need-returns-2
 unfolding hitWay matches
 returns-2 c =
     let a = c .before .before .before .before .before .args in
-    serve-pass (a .rule) (a .tag) (a .store) (a .tags .now) (a .lines) (a .maps) (c .before .before .hit-way .ensures) (c .before .if1 .left) (no-fill (length (a .tags .now)) (a .maps .fill) (c .if2 .taken))
+    serve-pass (a .rule) (a .tag) (a .store) (a .tags .now) (a .lines) (a .maps) (c .before .before .hit-way .ensures) (c .before .if1 .left)
+    (no-fill (length (a .tags .now)) (a .maps .fill) (c .if2 .taken))
 
 bring-requires : tie.Need-bring-requires
 bring-requires c κs =
-    let a = c .before .before .before .before .before .before .args in
-    (c .before .before .before .before .before .before .pre, some-fill (length (a .tags .now)) (a .rule) (a .maps .fill) (c .before .before .before .before .before .before .pre) (c .before .if2 .left))
+    let a = c .before .before .before .before .before .before .args in (
+      c .before .before .before .before .before .before .pre,
+      some-fill (length (a .tags .now)) (a .rule) (a .maps .fill)
+          (c .before .before .before .before .before .before .pre) (c .before .if2 .left),
+    )
 
 same-length-3 : tie.Need-same-length-3
 same-length-3 c = search needs
@@ -43,7 +47,10 @@ returns-3 : tie.Need-returns-3
 unfolding hitWay matches
 returns-3 c =
     let a = c .before .before .before .before .before .before .before .before .before .args in
-    serve-miss (a .rule) (a .tag) (a .store) (a .tags .now) (a .lines) (a .maps) (c .before .before .before .before .before .before .hit-way .ensures) (c .before .before .before .before .before .if1 .left) (some-fill (length (a .tags .now)) (a .rule) (a .maps .fill) (c .before .before .before .before .before .before .before .before .before .pre) (c .before .before .before .before .if2 .left)) (c .before .before .bring .ensures)
+    serve-miss (a .rule) (a .tag) (a .store) (a .tags .now) (a .lines) (a .maps) (c .before .before .before .before .before .before .hit-way .ensures)
+    (c .before .before .before .before .before .if1 .left) (some-fill (length (a .tags .now)) (a .rule) (a .maps .fill)
+    (c .before .before .before .before .before .before .before .before .before .pre) (c .before .before .before .before .if2 .left))
+    (c .before .before .bring .ensures)
 
 pub serve-spec : {M : Type 1} → statement M
 serve-spec =

@@ -30,8 +30,11 @@ aimed-requires c κs = search needs
 returns-3 : tie.Need-returns-3
 unfolding turn
 returns-3 c =
-    rw
-    (sym (c .before .before .before .before .has-some .ensures) ∙ c .before .before .before .if1 .taken, sym (c .before .before .has-some2 .ensures) ∙ c .before .if2 .taken)
+    rw (
+      sym (c .before .before .before .before .has-some .ensures) ∙ c .before .before .before .if1 .taken,
+      sym (c .before .before .has-some2 .ensures)
+          ∙ c .before .if2 .taken,
+    )
     (c .aimed .ensures)
 
 pub turned-spec : {M : Type 1} → statement M

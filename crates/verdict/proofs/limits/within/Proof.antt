@@ -22,7 +22,8 @@ in-limits-requires : tie.Need-in-limits-requires
 in-limits-requires c κs = search needs
 
 returns-4 : tie.Need-returns-4
-returns-4 c = limits-rule (c .before .before .before .before .args .g) (c .before .before .before .if1 .left) (c .before .before .if2 .left) (c .before .if3 .left) (c .in-limits .ensures)
+returns-4 c = limits-rule (c .before .before .before .before .args .g) (c .before .before .before .if1 .left) (c .before .before .if2 .left)
+    (c .before .if3 .left) (c .in-limits .ensures)
 
 pub within-spec : {M : Type 1} → statement M
 within-spec = tie.close (tie.spec returns returns-2 sub-if3 returns-3 in-limits-requires returns-4)

@@ -25,15 +25,19 @@ returns-2 : tie.Need-returns-2
 returns-2 c =
     let a = c .before .before .before .before .before .args in
     rw (ne-eqb (a .d) (a .e) (c .before .before .before .before .if1 .left), ← (c .before .before .before .policy .ensures))
-    (shared-is (a .g .ways) (a .g .rule) (a .fill) (c .before .before .before .policy .result .fill) (c .before .before .before .before .before .pre .0) (c .before .before .before .before .before .pre .1 .0)
-    (policy-within (a .g .ways) (a .policies) (a .e) (c .before .before .before .policy .ensures)) (c .before .before .conflict .result) (c .before .match .keys1) (c .before .before .conflict .ensures))
+    (shared-is (a .g .ways) (a .g .rule) (a .fill) (c .before .before .before .policy .result .fill) (c .before .before .before .before .before .pre .0)
+    (c .before .before .before .before .before .pre .1 .0)
+    (policy-within (a .g .ways) (a .policies) (a .e) (c .before .before .before .policy .ensures)) (c .before .before .conflict .result)
+    (c .before .match .keys1) (c .before .before .conflict .ensures))
 
 returns-3 : tie.Need-returns-3
 returns-3 c =
     let a = c .before .before .before .before .args in
     rw (ne-eqb (a .d) (a .e) (c .before .before .before .if1 .left), ← (c .before .before .policy .ensures))
-    (unshared-is (a .g .ways) (a .g .rule) (a .fill) (c .before .before .policy .result .fill) (c .before .before .before .before .pre .0) (c .before .before .before .before .pre .1 .0)
-    (policy-within (a .g .ways) (a .policies) (a .e) (c .before .before .policy .ensures)) (c .before .conflict .result) (c .match .keys2) (c .before .conflict .ensures))
+    (unshared-is (a .g .ways) (a .g .rule) (a .fill) (c .before .before .policy .result .fill) (c .before .before .before .before .pre .0)
+    (c .before .before .before .before .pre .1 .0)
+    (policy-within (a .g .ways) (a .policies) (a .e) (c .before .before .policy .ensures)) (c .before .conflict .result) (c .match .keys2)
+    (c .before .conflict .ensures))
 
 pub has-node-spec : {M : Type 1} → statement M
 has-node-spec =

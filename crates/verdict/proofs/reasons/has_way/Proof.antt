@@ -15,7 +15,10 @@ policy-requires : tie.Need-policy-requires
 policy-requires c κs = search needs
 
 returns-2 : tie.Need-returns-2
-returns-2 c = rw (ne-eqb (c .before .before .before .args .d) (c .before .before .before .args .e) (c .before .before .if1 .left), ← (c .before .policy .ensures)) (common-is (c .before .before .before .args .hit) (c .before .policy .result .hit) (c .before .before .before .pre .1))
+returns-2 c = rw (
+  ne-eqb (c .before .before .before .args .d) (c .before .before .before .args .e) (c .before .before .if1 .left),
+  ← (c .before .policy .ensures),
+) (common-is (c .before .before .before .args .hit) (c .before .policy .result .hit) (c .before .before .before .pre .1))
 
 pub has-way-spec : {M : Type 1} → statement M
 has-way-spec = tie.close (tie.spec returns policy-requires returns-2)
