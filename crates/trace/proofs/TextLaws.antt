@@ -140,6 +140,27 @@ digit-put at n end out h =
     ∙ put-byte ((48 + n) ∷ []) w end (sym (append-byte (48 + n) at out))
     ∙ ap (λ (ds : List ℕ). append (ds ++ end ∷ []) w) (sym (digit-is n h))
 
+-- A number from 10 to 99 is two digits.
+two-are : (n : ℕ) → 10 ≤ n → n < 100 → decimal n ≡ (48 + n / 10) ∷ (48 + n % 10) ∷ []
+unfolding decimalBy
+two-are n h k =
+    let tens : n / 10 < 10 = omega arith in
+    rw (le-ltb n 10 h, lt-ltb (n / 10) 10 tens, mod-eq-of-lt tens)
+
+pub two-put : (at n end : ℕ) (out : List ℕ) → 10 ≤ n → n < 100
+    → writtenOf (at + 3) (set (set (set out at (48 + n / 10)) (at + 1) (48 + n % 10)) (at + 2) end) ≡ append (decimal n ++ end ∷ []) (writtenOf at out)
+two-put at n end out h k =
+    let w : Written = writtenOf at out in
+    let second : at + 2 ≡ at + 1 + 1 = omega arith in
+    let third : at + 3 ≡ at + 1 + 1 + 1 = omega arith in
+    ap₂ (λ (i j : ℕ). writtenOf i (set (set (set out at (48 + n / 10)) (at + 1) (48 + n % 10)) j end)) third second
+    ∙ put-byte ((48 + n / 10) ∷ (48 + n % 10) ∷ []) w end
+    (put-byte ((48 + n / 10) ∷ []) w (48 + n % 10) (sym (append-byte (48 + n / 10) at out)))
+    ∙ ap (λ (ds : List ℕ). append (ds ++ end ∷ []) w) (sym (two-are n h k))
+
+pub third-inside : (at u v : ℕ) (out : List ℕ) → at + 21 ≤ length out → at + 2 < length (set (set out at u) (at + 1) v)
+third-inside at u v out h = rw (length-set (set out at u) (at + 1) v, length-set out at u) (omega arith)
+
 pub second-inside : (at v : ℕ) (out : List ℕ) → at + 21 ≤ length out → at + 1 < length (set out at v)
 second-inside at v out h = rw (length-set out at v) (omega arith)
 

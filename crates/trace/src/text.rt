@@ -21,6 +21,20 @@ fn put(bytes: &[u8], out: &mut [u8], at: usize) -> usize
     at + count
 }
 
+// Puts a number of two digits, and the byte that ends it.
+fn two_digits(n: u64, end: u8, out: &mut [u8], at: usize) -> usize
+    requires { ⌜ 10 ≤ n ⌝ }
+    requires { ⌜ n < 100 ⌝ }
+    requires { ⌜ at + 21 ≤ length (now out) ⌝ }
+    ensures { λ r. ⌜ writtenOf r (now (out .exit)) ≡ append (decimal n ++ end ∷ []) (writtenOf at (now (out .entry))) ⌝ }
+    ensures { λ r. ⌜ r ≤ at + 21 ⌝ }
+{
+    out[at] = b'0' + ((n / 10) as u8);
+    out[at + 1] = b'0' + ((n % 10) as u8);
+    out[at + 2] = end;
+    at + 3
+}
+
 // Puts a number in decimal, and the byte that ends it.
 pub fn number(n: u64, end: u8, out: &mut [u8], at: usize) -> usize
     requires { ⌜ at + 21 ≤ length (now out) ⌝ }
@@ -31,6 +45,9 @@ pub fn number(n: u64, end: u8, out: &mut [u8], at: usize) -> usize
         out[at] = b'0' + (n as u8);
         out[at + 1] = end;
         return at + 2;
+    }
+    if n < 100 {
+        return two_digits(n, end, out, at);
     }
     let mut digits = [0u8; 20];
     let count = io::decimal(n, &mut digits);

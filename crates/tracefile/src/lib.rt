@@ -3,7 +3,7 @@ use command::Command;
 use verdict::Geometry;
 ghost use mathlib.Core.Path.{_≡_};
 ghost use Prim.Native.Nat.{_+_, _*_, _^_, _≤_, _<_};
-ghost use lib.ListN.{getD};
+ghost use lib.ListN.{length, getD};
 ghost use Rattle.command.specs.Command.{commandIs};
 ghost use Rattle.tracefile.specs.File.{field as fieldOf, geometryOf, stepCount, commandAt, fileRefusal};
 
@@ -29,8 +29,25 @@ fn byte_value(byte: u8) -> u64
     byte as u64
 }
 
-// The value of the n bytes from byte `at` on, little-endian.
-fn field(file: &[u8], at: usize, n: usize) -> u64
+// The value of the n bytes from byte `at` on, little-endian, of a file that has them.
+fn field_within(file: &[u8], at: usize, n: usize) -> u64
+    requires { ⌜ n ≤ 8 ⌝ }
+    requires { ⌜ at ≤ 1099511627776 ⌝ }
+    requires { ⌜ at + n ≤ length (now file) ⌝ }
+    ensures { λ r. ⌜ r ≡ fieldOf at n (now (file .entry)) ⌝ }
+    ensures { λ r. ⌜ r < 256 ^ n ⌝ }
+{
+    let mut value = 0;
+    let mut k = n;
+    while 0 < k {
+        k -= 1;
+        value = byte_value(file[at + k]) + 256 * value;
+    }
+    value
+}
+
+// The same of any file: bytes behind its end are 0.
+fn field_beyond(file: &[u8], at: usize, n: usize) -> u64
     requires { ⌜ n ≤ 8 ⌝ }
     requires { ⌜ at ≤ 1099511627776 ⌝ }
     ensures { λ r. ⌜ r ≡ fieldOf at n (now (file .entry)) ⌝ }
@@ -43,6 +60,19 @@ fn field(file: &[u8], at: usize, n: usize) -> u64
         value = byte(file, at + k) + 256 * value;
     }
     value
+}
+
+// The value of the n bytes from byte `at` on, little-endian. A file that has them is read without a look at each byte's place.
+fn field(file: &[u8], at: usize, n: usize) -> u64
+    requires { ⌜ n ≤ 8 ⌝ }
+    requires { ⌜ at ≤ 1099511627776 ⌝ }
+    ensures { λ r. ⌜ r ≡ fieldOf at n (now (file .entry)) ⌝ }
+    ensures { λ r. ⌜ r < 256 ^ n ⌝ }
+{
+    if at + n <= file.len() {
+        return field_within(file, at, n);
+    }
+    field_beyond(file, at, n)
 }
 
 // The geometry that a file names.

@@ -1,7 +1,7 @@
 // The path from the root to a way, and what a touch of the way does to its nodes.
 use crate::nodes;
 ghost use mathlib.Core.Path.{_≡_};
-ghost use Prim.Native.Nat.{ℕ, _+_, _≤_, _<_};
+ghost use Prim.Native.Nat.{ℕ, _+_, _<_};
 ghost use Rattle.waymap.specs.Bits.{bit, any, word as number};
 ghost use Rattle.waymap.specs.Ways.{Sized};
 ghost use Rattle.tree.specs.Tree.{touch};
@@ -16,10 +16,10 @@ pub struct Spot {
 // Whether the map has one of the `count` ways from `first` on.
 fn has_some(map: u16, first: usize, count: usize) -> bool
     requires { ⌜ first < 16 ⌝ }
-    requires { ⌜ count ≤ 16 ⌝ }
+    requires { ⌜ count < 16 ⌝ }
     ensures { λ r. ⌜ r ≡ any count (λ (v : ℕ). bit map (first + v)) ⌝ }
 {
-    (map >> first) & waymap::all(count) != 0
+    (map >> first) & ((1 << count) - 1) != 0
 }
 
 // The word with a node aimed right or left.

@@ -1,9 +1,9 @@
--- `tracefile::field` meets its contract. The invariant: the value of the bytes read so far.
+-- `tracefile::field_beyond` meets its contract. The invariant: the value of the bytes read so far.
 use borrow.Author.Needs.{needs}
 use native.Mathlib.Omega.{arith}
 use Rattle.tracefile.proofs.FileLaws.{Reading, read-begin, read-room, read-turned, read-end}
-use Rattle.tracefile.proofs.field.Statement.{statement}
-use Rattle.tracefile.proofs.field.Tie as tie
+use Rattle.tracefile.proofs.field_beyond.Statement.{statement}
+use Rattle.tracefile.proofs.field_beyond.Tie as tie
 
 abbrev Inv-loop : tie.InvT-loop
 Inv-loop file at n value₀ k₀ value k = Reading file at n value k
@@ -38,8 +38,8 @@ loop-again c = read-turned (c .before .before .loop .inv) (c .before .loop-test 
 returns : tie.Need-returns Inv-loop μ-loop
 returns c = read-end (c .before .loop .inv) (c .loop-test .left)
 
-pub field-spec : {M : Type 1} → statement M
-field-spec =
+pub field-beyond-spec : {M : Type 1} → statement M
+field-beyond-spec =
     tie.close
     (tie.spec
     Inv-loop
