@@ -20,16 +20,16 @@ use Rattle.cache.specs.Domains.{counted}
 -- ---- room for one more
 
 -- each count is below the largest
-pub record Room (c : Counts) : Type 0 where
+pub record Unspent (c : Counts) : Type 0 where
   pub hits : c .hits ≡ 4294967295 → ⊥
   pub misses : c .misses ≡ 4294967295 → ⊥
   pub evicted : c .evicted ≡ 4294967295 → ⊥
   pub written : c .written ≡ 4294967295 → ⊥
   pub flushed : c .flushed ≡ 4294967295 → ⊥
 
-pub room : (c : Counts) → isFull c ≡ false → Room c
+pub unspent : (c : Counts) → isFull c ≡ false → Unspent c
 unfolding isFull
-room c e =
+unspent c e =
     let hits = eqb (c .hits) 4294967295 in
     let misses = eqb (c .misses) 4294967295 in
     let evicted = eqb (c .evicted) 4294967295 in

@@ -2,7 +2,7 @@
 use mathlib.Core.Path.{_≡_, refl, sym, ap, ap₂, subst, fun-ext, _∙_}
 use mathlib.Core.Bool.{Bool, true, false, cond, not, _&&_, _||_, and-comm, and-false}
 use Prim.Native.Nat.{ℕ, zero, suc, _+_, _/_, _^_, _≤_, _<_}
-use native.Mathlib.Nat.{lt-of-lt-of-le}
+use native.Mathlib.Nat.{suc-ne-zero, lt-of-lt-of-le}
 use native.Mathlib.Omega.{arith}
 use lib.Dec.{eqb, ltb}
 use lib.ListN.{length}
@@ -51,15 +51,12 @@ passed : (g : Geometry) (policy : ℕ → Maps) (e arg : ℕ) → policyRefusal 
 unfolding policyRefusal
 passed g policy e arg z =
     cases (badArgument (g .ways) arg)
-    (λ t. absurd (nonzero 4 (rw t at z)))
+    (λ t. absurd (suc-ne-zero 4 (rw t at z)))
     (λ t. cases (sharesWay policy e (newMaps arg))
-    (λ u. absurd (nonzero 7 (rw (t, u) at z)))
+    (λ u. absurd (suc-ne-zero 7 (rw (t, u) at z)))
     (λ u. cases (sharesNode (ruleOf (g .rule) (g .ways)) policy e (newMaps arg))
-    (λ v. absurd (nonzero 8 (rw (t, u, v) at z)))
+    (λ v. absurd (suc-ne-zero 8 (rw (t, u, v) at z)))
     (λ v. record { good = t; ways-free = u; nodes-free = v })))
-  where
-    nonzero : (n : ℕ) → suc n ≡ 0 → ⊥
-    nonzero n q = omega arith
 
 module _ (g : Geometry) (l : Limited g) (policy : ℕ → Maps) (cut : (f : ℕ) → Cut (g .ways) (policy f)) (e arg : ℕ) (p : Passed g policy e arg) where
   -- what is read is what the argument says

@@ -3,4 +3,3 @@ pub mod TextLaws
 pub mod LineLaws
 pub mod RunLaws
 pub mod ListLaws
-pub mod WorkedCases

@@ -17,7 +17,7 @@ use Rattle.row.specs.declared.Answer.the-variants.{Hit, Fill, Evict, Pass, Flus
 use Rattle.verdict.specs.Domains.{domainOf}
 use Rattle.verdict.specs.declared.Domain.{Domain}
 use Rattle.verdict.specs.declared.Domains.{Domains}
-use Rattle.trace.specs.Listing.{decimal, line, domainLine, domainPart, domainLines}
+use Rattle.listing.specs.Listing.{decimal, line, domainLine, domainPart, domainLines}
 use Rattle.trace.specs.Inside.{Written, writtenOf, append, Says}
 use Rattle.trace.specs.declared.lines.Phrase.{Phrase}
 use Rattle.trace.proofs.TextLaws.{append-append, append-none, piece-long}

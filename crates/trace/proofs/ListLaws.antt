@@ -20,7 +20,7 @@ use Rattle.cache.specs.Run.{finally}
 use Rattle.fresh.specs.Fresh.{fresh}
 use Rattle.tracefile.proofs.FileLaws.{Accepted, accepted}
 use Rattle.tracefile.specs.File.{geometryOf, stepCount, stepsOf, fileRefusal}
-use Rattle.trace.specs.Listing.{refusedLine, runLines, listing}
+use Rattle.listing.specs.Listing.{refusedLine, runLines, listing}
 use Rattle.trace.specs.Calls.{Listed, listedOf, onto, ontoTables, lastTables, listOf}
 use Rattle.trace.specs.Inside.{Written, writtenOf, append, ListedBy, listedBy, listingBy, Roomy}
 use Rattle.trace.proofs.TextLaws.{piece-end}

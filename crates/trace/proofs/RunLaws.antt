@@ -15,7 +15,7 @@ use Rattle.cache.specs.Step.{State, Outcome}
 use Rattle.cache.specs.Tables.{Tables, lengths}
 use Rattle.fresh.specs.Fresh.{freshTables, freshDomains, fresh, Made, madeOf, freshOf}
 use Rattle.tracefile.specs.File.{commandAt, lastSteps}
-use Rattle.trace.specs.Listing.{decimal, line, told, answerLines, headLine, domainLines, runLines}
+use Rattle.listing.specs.Listing.{decimal, line, told, answerLines, headLine, domainLines, runLines}
 use Rattle.trace.specs.Inside.{Written, writtenOf, append, RunTo, runTo, listedBy, listingBy}
 use Rattle.trace.proofs.TextLaws.{append-append, append-none, piece-long}
 

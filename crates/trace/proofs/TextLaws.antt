@@ -15,7 +15,7 @@ use borrow.Author.Tests.{ltb-true, ltb-false, lt-ltb, le-ltb}
 use Rattle.waymap.proofs.Booleans.{cases}
 use Rattle.io.specs.Digits.{digits, Fewest}
 use Rattle.command.proofs.ListLaws.{drop-next}
-use Rattle.trace.specs.Listing.{decimalBy, decimal, line}
+use Rattle.listing.specs.Listing.{decimalBy, decimal, line}
 use Rattle.trace.specs.Inside.{Written, writtenOf, append, endOf}
 
 -- ---- pieces

@@ -9,7 +9,7 @@ use Rattle.fresh.specs.Fresh.{fresh}
 use Rattle.cache.specs.Step.{State}
 use Rattle.cache.specs.Tables.{Tables}
 use Rattle.tracefile.specs.File.{geometryOf, stepsOf, fileRefusal}
-use Rattle.trace.specs.Listing.{listing}
+use Rattle.listing.specs.Listing.{listing}
 
 -- How many bytes are written, the output and the tables.
 pub record Listed : Type 0 where

@@ -13,7 +13,7 @@ use Rattle.fresh.specs.Fresh.{fresh}
 use Rattle.cache.specs.Tables.{Tables}
 use Rattle.cache.specs.Step.{State}
 use Rattle.tracefile.specs.File.{lastSteps}
-use Rattle.trace.specs.Listing.{decimal, answerLines, runLines}
+use Rattle.listing.specs.Listing.{decimal, answerLines, runLines}
 use Rattle.trace.specs.declared.Ran.{Ran}
 use Rattle.trace.specs.declared.lines.Phrase.{Phrase}
 
@@ -29,7 +29,7 @@ writtenOf at out = record { at = at; out = out }
 unfoldable pub append : List ℕ → Written → Written
 append bytes w = record { at = w .at + length bytes; out = sets (w .out) (w .at) bytes }
 
--- A phrase is a word and fields.
+-- A phrase is a word, the first `p .1` bytes of `p .0`, and fields, the first `p .3` numbers of `p .2`.
 pub record Says (p : Phrase) (fields : List (List ℕ)) : Type 0 where
   pub is : take (p .1) (p .0) ∷ map decimal (take (p .3) (p .2)) ≡ fields
   pub inside : p .1 ≤ length (p .0)

@@ -11,7 +11,7 @@ ghost use mathlib.Core.List.{[], _∷_, map};
 ghost use Prim.Native.Nat.{_+_, _*_, _≤_, _<_};
 ghost use lib.ListN.{length};
 ghost use Rattle.row.specs.Answer.{answerOf};
-ghost use Rattle.trace.specs.Listing.{decimal, line, told as toldAs, headLine, refusedLine, domainLine, domainPart, domainLines};
+ghost use Rattle.listing.specs.Listing.{decimal, line, told as toldAs, headLine, refusedLine, domainLine, domainPart, domainLines};
 ghost use Rattle.trace.specs.Inside.{writtenOf, append, Says};
 
 // The line of a refused file.

@@ -3,7 +3,7 @@ ghost use mathlib.Core.Path.{_≡_};
 ghost use mathlib.Core.List.{[], _∷_, _++_, map};
 ghost use Prim.Native.Nat.{_+_, _*_, _≤_, _<_};
 ghost use lib.ListN.{length};
-ghost use Rattle.trace.specs.Listing.{decimal, line};
+ghost use Rattle.listing.specs.Listing.{decimal, line};
 ghost use Rattle.trace.specs.Inside.{writtenOf, append, endOf};
 
 // Puts bytes at `at`, and answers the place after them.

@@ -5,7 +5,7 @@ use mathlib.Core.List.{[], _∷_}
 use lib.ListN.{getD}
 use mathlib.Core.Bool.{Bool, true, false, cond, not, _&&_, _||_, and-true, or-true, true≢false}
 use Prim.Native.Nat.{ℕ, zero, suc, _+_, _-_, _/_, _%_, _^_, _≤_, _<_}
-use native.Mathlib.Nat.{lt-of-le-of-lt, mod-lt}
+use native.Mathlib.Nat.{suc-ne-zero, lt-of-le-of-lt, mod-lt}
 use native.Mathlib.Omega.{arith}
 use lib.Dec.{eqb, leb, ltb}
 use lib.Bits.{bitAnd, and-le-l}
@@ -201,9 +201,6 @@ asked-unknown (AskedIs.Line flushes store) e = absurd (omega arith)
 asked-unknown AskedIs.Policy e = absurd (omega arith)
 asked-unknown AskedIs.Unknown e = refl
 
-nonzero : (n : ℕ) → suc n ≡ 0 → ⊥
-nonzero n q = omega arith
-
 -- numbers 1 and 2 let pass what is within the limits and of the right lengths
 pub sizes-passed : (g : Geometry) (n : Lengths) → sizesOf g n ≡ 0 → (within g ≡ true) × (sized g n ≡ true)
 unfolding sizesOf
@@ -211,8 +208,8 @@ sizes-passed g n e =
     cases (within g)
     (λ w. cases (sized g n)
     (λ z. (w, z))
-    (λ z. absurd (nonzero 1 (rw (w, z) at e))))
-    (λ w. absurd (nonzero 0 (rw w at e)))
+    (λ z. absurd (suc-ne-zero 1 (rw (w, z) at e))))
+    (λ w. absurd (suc-ne-zero 0 (rw w at e)))
 
 pub within-passed : (g : Geometry) (n : Lengths) {m : ℕ} → m ≡ sizesOf g n → m ≡ 0 → within g ≡ true
 within-passed g n e z = sizes-passed g n (sym e ∙ z) .0
@@ -273,7 +270,7 @@ module _ (g : Geometry) (n : Lengths) (policies : ℕ → Maps) (c : Counts) (d 
       cases (within g)
       (λ w. cases (sized g n)
       (λ l. cases (leb 16 d)
-      (λ h. absurd (nonzero 2 (rw (w, l, h) at e)))
+      (λ h. absurd (suc-ne-zero 2 (rw (w, l, h) at e)))
       (λ h. record { within-is = w; sized-is = l; domain-lt = leb-false 16 d h; kind-is = rw (w, l, h) at e }))
-      (λ l. absurd (nonzero 1 (rw (w, l) at e))))
-      (λ w. absurd (nonzero 0 (rw w at e)))
+      (λ l. absurd (suc-ne-zero 1 (rw (w, l) at e))))
+      (λ w. absurd (suc-ne-zero 0 (rw w at e)))

@@ -3,7 +3,7 @@ use borrow.Author.Needs.{needs}
 use mathlib.Core.Path.{_≡_}
 use native.Mathlib.Omega.{arith}
 use Rattle.cache.specs.Domains.{counted}
-use Rattle.cache.proofs.CountLaws.{room, is-pass, rest-stays}
+use Rattle.cache.proofs.CountLaws.{unspent, is-pass, rest-stays}
 use Rattle.cache.proofs.account.counted.Statement.{statement}
 use Rattle.cache.proofs.account.counted.Tie as tie
 
@@ -11,31 +11,41 @@ enum-known-answer : tie.Need-enum-known-answer
 enum-known-answer c = search needs
 
 add-next : tie.Need-add-next
-add-next c = omega (arith, c .struct-known .given .0, room (c .before .before .before .before .args .c) (c .before .before .before .before .pre) .hits)
+add-next c = omega (arith, c .struct-known .given .0, unspent (c .before .before .before .before .args .c) (c .before .before .before .before .pre) .hits)
 
 enum-known-answer-2 : tie.Need-enum-known-answer-2
 enum-known-answer-2 c = search needs
 
 add-next-2 : tie.Need-add-next-2
-add-next-2 c = omega (arith, c .struct-known2 .given .1 .0, room (c .before .before .before .before .args .c) (c .before .before .before .before .pre) .misses)
+add-next-2 c =
+    omega (
+      arith,
+      c .struct-known2 .given .1 .0,
+      unspent (c .before .before .before .before .args .c) (c .before .before .before .before .pre) .misses,
+    )
 
 enum-told : tie.Need-enum-told
 enum-told c = search needs
 
 add-next-3 : tie.Need-add-next-3
-add-next-3 c = omega (arith, c .struct-known3 .given .1 .0, room (c .before .before .before .args .c) (c .before .before .before .pre) .misses)
+add-next-3 c = omega (arith, c .struct-known3 .given .1 .0, unspent (c .before .before .before .args .c) (c .before .before .before .pre) .misses)
 
 enum-known-answer-3 : tie.Need-enum-known-answer-3
 enum-known-answer-3 c = search needs
 
 add-next-4 : tie.Need-add-next-4
-add-next-4 c = omega (arith, c .struct-known4 .given .1 .0, room (c .before .before .before .before .args .c) (c .before .before .before .before .pre) .misses)
+add-next-4 c =
+    omega (
+      arith,
+      c .struct-known4 .given .1 .0,
+      unspent (c .before .before .before .before .args .c) (c .before .before .before .before .pre) .misses,
+    )
 
 add-next-5 : tie.Need-add-next-5
 add-next-5 c = omega (
   arith,
   c .struct-known5 .given .1 .1 .0,
-  room (c .before .before .before .before .before .args .c)
+  unspent (c .before .before .before .before .before .args .c)
       (c .before .before .before .before .before .pre) .evicted,
 )
 
@@ -43,20 +53,25 @@ with-dirty-requires : tie.Need-with-dirty-requires
 with-dirty-requires c κs = omega (
   arith,
   c .struct-known5 .given .1 .1 .1 .0,
-  room (c .before .before .before .before .before .args .c) (c .before .before .before .before .before .pre) .written,
+  unspent (c .before .before .before .before .before .args .c) (c .before .before .before .before .before .pre) .written,
 )
 
 enum-known-answer-4 : tie.Need-enum-known-answer-4
 enum-known-answer-4 c = search needs
 
 with-dirty-requires-2 : tie.Need-with-dirty-requires-2
-with-dirty-requires-2 c κs = omega (arith, c .before .before .before .good, room (c .before .before .before .args .c) (c .before .before .before .pre) .written)
+with-dirty-requires-2 c κs =
+    omega (
+      arith,
+      c .before .before .before .good,
+      unspent (c .before .before .before .args .c) (c .before .before .before .pre) .written,
+    )
 
 add-next-6 : tie.Need-add-next-6
 add-next-6 c = omega (
   arith,
   c .struct-known6 .given .1 .1 .1 .1 .0,
-  room (c .before .before .before .before .before .args .c)
+  unspent (c .before .before .before .before .before .args .c)
       (c .before .before .before .before .before .pre) .flushed,
 )
 

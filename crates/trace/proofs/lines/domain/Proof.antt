@@ -1,5 +1,5 @@
 -- `trace::lines::domain` meets its contract.
-use Rattle.trace.specs.Listing.{domainLine}
+use Rattle.listing.specs.Listing.{domainLine}
 use borrow.Author.Needs.{needs}
 use Rattle.trace.proofs.lines.domain.Statement.{statement}
 use Rattle.trace.proofs.lines.domain.Tie as tie

@@ -3,7 +3,7 @@ use mathlib.Core.Logic.{inl, inr}
 use mathlib.Core.Path.{refl}
 use lib.Dec.{lit≤}
 use borrow.Author.Needs.{needs}
-use Rattle.trace.specs.Listing.{told}
+use Rattle.listing.specs.Listing.{told}
 use Rattle.trace.proofs.LineLaws.{bare}
 use Rattle.trace.proofs.lines.said.Statement.{statement}
 use Rattle.trace.proofs.lines.said.Tie as tie

@@ -1,7 +1,7 @@
 -- `trace::lines::step` meets its contract.
 use native.Mathlib.Omega.{arith}
 use mathlib.Core.List.{map}
-use Rattle.trace.specs.Listing.{decimal}
+use Rattle.listing.specs.Listing.{decimal}
 use Rattle.trace.specs.Inside.{writtenOf}
 use Rattle.trace.proofs.LineLaws.{step-is}
 use borrow.Author.Needs.{needs}

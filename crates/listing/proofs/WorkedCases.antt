@@ -21,7 +21,7 @@ use Rattle.command.specs.Command.{Command, commandOf}
 use Rattle.cache.specs.Run.{answersOf, finally}
 use Rattle.fresh.specs.Fresh.{freshTables, freshDomains, fresh}
 use Rattle.tracefile.specs.File.{value, field, lastSteps, badFile, fileRefusal}
-use Rattle.trace.specs.Listing.{decimalBy, line, told, answerLines, domainLine, domainPart, domainLines, runLines, listing}
+use Rattle.listing.specs.Listing.{decimalBy, line, told, answerLines, domainLine, domainPart, domainLines, runLines, listing}
 
 -- "1 set, 4 ways, rule 0, 9 steps"
 abbrev fileA : List ℕ

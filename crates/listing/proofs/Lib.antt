@@ -1,0 +1,2 @@
+-- The listing, tried.
+pub mod WorkedCases

@@ -1,0 +1,2 @@
+-- The listing of a trace file: document 01, "Trace file and listing".
+pub mod Listing
