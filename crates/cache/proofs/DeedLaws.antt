@@ -5,16 +5,17 @@ use Prim.Native.Nat.{ℕ}
 use lib.Dec.{eqb}
 use borrow.Author.Tests.{ne-eqb}
 use Rattle.replacement.specs.Rule.{Rule, ruleOf}
-use Rattle.row.specs.Row.{asRead, dropped, droppedDirty, cleaned}
-use Rattle.row.specs.Sweep.{sweepOf}
-use Rattle.row.specs.declared.Maps.{Maps}
+use Rattle.policy.specs.Policy.{asRead, newMaps}
+use Rattle.sweep.specs.Clean.{dropped, droppedDirty, cleaned}
+use Rattle.sweep.specs.Sweep.{sweepOf}
+use Rattle.policy.specs.declared.Maps.{Maps}
 use Rattle.row.specs.declared.Answer.{Answer}
 use Rattle.row.specs.declared.Answer.the-variants.{Policy, Refused}
-use Rattle.row.specs.declared.Sweep.{Sweep}
+use Rattle.sweep.specs.declared.Sweep.{Sweep}
 use Rattle.verdict.specs.Domains.{mapsOf, isFull}
-use Rattle.verdict.specs.Refusal.{newMaps, useRefusal}
+use Rattle.verdict.specs.Refusal.{useRefusal}
 use Rattle.verdict.specs.Calls.{policyRefusalOf}
-use Rattle.verdict.specs.declared.Geometry.{Geometry}
+use Rattle.geometry.specs.declared.Geometry.{Geometry}
 use Rattle.verdict.specs.declared.Domain.{Domain}
 use Rattle.verdict.specs.declared.Policies.{Policies}
 use Rattle.verdict.proofs.RefusalLaws.{not-full}

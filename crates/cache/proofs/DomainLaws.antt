@@ -6,8 +6,8 @@ use native.Mathlib.Omega.{arith}
 use lib.Dec.{eqb}
 use lib.ListN.{length, getD, set, length-set}
 use lib.Seq.{getD-set-same, getD-set-other}
-use Rattle.row.specs.Row.{asRead}
-use Rattle.row.specs.declared.Maps.{Maps}
+use Rattle.policy.specs.Policy.{asRead}
+use Rattle.policy.specs.declared.Maps.{Maps}
 use Rattle.verdict.specs.Domains.{noDomain, domainOf, policies}
 use Rattle.verdict.specs.declared.Domain.{Domain}
 use Rattle.verdict.specs.declared.Domains.{Domains}

@@ -2,8 +2,8 @@
 use mathlib.Core.Path.{refl, subst}
 use Prim.Native.Nat.{ℕ, _+_, _*_, _/_, _%_, _≤_, _<_}
 use native.Mathlib.Nat.{mul-le-mul-right, suc-mul, mod-lt}
-use Rattle.verdict.specs.Inside.{Limited}
-use Rattle.verdict.specs.declared.Geometry.{Geometry}
+use Rattle.geometry.specs.Inside.{Limited}
+use Rattle.geometry.specs.declared.Geometry.{Geometry}
 use Rattle.cache.specs.Geometry.{setOf, tagOf}
 use Rattle.cache.specs.Inside.{RowOf, PlaceOf}
 use Rattle.cache.specs.declared.place.Place.{Place}

@@ -15,7 +15,7 @@ use Rattle.row.specs.Row.{Row, Effect}
 use Rattle.row.specs.Calls.{rowOf, result}
 use Rattle.row.specs.declared.Done.{Done}
 use Rattle.row.specs.declared.Lines.{Lines}
-use Rattle.verdict.specs.declared.Geometry.{Geometry}
+use Rattle.geometry.specs.declared.Geometry.{Geometry}
 use Rattle.cache.specs.Tables.{Tables, rowAt, putRow, eachSet, total}
 use Rattle.cache.specs.Step.{tablesOf}
 use Rattle.cache.specs.Inside.{Shaped, Work, RowWork, onRow}

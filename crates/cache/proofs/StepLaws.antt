@@ -13,24 +13,28 @@ use Rattle.waymap.specs.Ways.{isWays}
 use Rattle.waymap.proofs.Booleans.{cases, and-left, and-right}
 use Rattle.replacement.specs.Rule.{Rule, ruleOf}
 use Rattle.replacement.specs.Calls.{inLimits}
-use Rattle.row.specs.Row.{Row, Effect, asRead, dropped, droppedDirty, cleaned}
+use Rattle.row.specs.Row.{Row, Effect}
+use Rattle.policy.specs.Policy.{asRead, newMaps}
+use Rattle.sweep.specs.Clean.{dropped, droppedDirty, cleaned}
 use Rattle.row.specs.Calls.{accessOf, flushOf}
-use Rattle.row.specs.declared.Maps.{Maps}
+use Rattle.policy.specs.declared.Maps.{Maps}
 use Rattle.row.specs.declared.Answer.{Answer}
 use Rattle.row.specs.declared.Answer.the-variants.{Policy, Refused}
-use Rattle.verdict.specs.Geometry.{within, sized}
+use Rattle.geometry.specs.Geometry.{within, sized, sizesOf}
 use Rattle.verdict.specs.Domains.{noDomain, domainOf, mapsOf, policies}
-use Rattle.verdict.specs.Refusal.{Kind, kindOf, newMaps, useRefusal, policyRefusal, refusal}
-use Rattle.verdict.specs.Calls.{sizesOf, kindIs, policiesOf, policyRefusalOf}
-use Rattle.verdict.specs.declared.Geometry.{Geometry}
-use Rattle.verdict.specs.declared.Asked.{Asked}
-use Rattle.verdict.specs.declared.Asked.the-variants as AskedIs
+use Rattle.command.specs.Kind.{Kind, kindOf, kindIs}
+use Rattle.verdict.specs.Refusal.{useRefusal, policyRefusal, refusal}
+use Rattle.verdict.specs.Calls.{policiesOf, policyRefusalOf}
+use Rattle.geometry.specs.declared.Geometry.{Geometry}
+use Rattle.command.specs.declared.Asked.{Asked}
+use Rattle.command.specs.declared.Asked.the-variants as AskedIs
 use Rattle.verdict.specs.declared.Domain.{Domain}
 use Rattle.verdict.specs.declared.Domains.{Domains}
 use Rattle.verdict.specs.declared.Policies.{Policies}
-use Rattle.verdict.proofs.Asked as AskedType
-use Rattle.verdict.proofs.GeometryLaws.{limited}
-use Rattle.verdict.proofs.RefusalLaws.{asked-policy, by-line, by-policy, by-unknown}
+use Rattle.command.proofs.Asked as AskedType
+use Rattle.geometry.proofs.GeometryLaws.{limited}
+use Rattle.command.proofs.KindLaws.{asked-policy}
+use Rattle.verdict.proofs.RefusalLaws.{by-line, by-policy, by-unknown}
 use Rattle.verdict.proofs.PolicyLaws.{read-policies}
 use Rattle.cache.specs.Geometry.{setOf, tagOf}
 use Rattle.cache.specs.Tables.{Tables, lengths, rowAt, eachSet, total}

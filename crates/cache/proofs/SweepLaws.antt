@@ -13,15 +13,17 @@ use Rattle.waymap.specs.Bits.{bit, count}
 use Rattle.waymap.proofs.WayLaws.{count-le}
 use Rattle.replacement.specs.Rule.{Rule, ruleOf}
 use Rattle.row.proofs.Answer.{the-type}
-use Rattle.row.proofs.TagLaws.{wiped-length}
-use Rattle.row.proofs.WorkLaws.{sweep-cleans}
-use Rattle.row.specs.Row.{Row, Effect, ways, asRead, dropped, droppedDirty, cleaned, clean}
-use Rattle.row.specs.Sweep.{sweepOf, drops, sweepBy}
-use Rattle.row.specs.declared.Sweep.{Sweep}
-use Rattle.row.specs.declared.Maps.{Maps}
+use Rattle.sweep.proofs.TagLaws.{wiped-length}
+use Rattle.sweep.proofs.SweepLaws.{sweep-cleans}
+use Rattle.row.specs.Row.{Row, Effect, ways}
+use Rattle.policy.specs.Policy.{asRead}
+use Rattle.sweep.specs.Clean.{dropped, droppedDirty, cleaned, clean}
+use Rattle.sweep.specs.Sweep.{sweepOf, drops, sweepBy}
+use Rattle.sweep.specs.declared.Sweep.{Sweep}
+use Rattle.policy.specs.declared.Maps.{Maps}
 use Rattle.row.specs.declared.Answer.{Answer}
 use Rattle.row.specs.declared.Answer.the-variants.{Hit, Fill, Evict, Pass, Flush, Absent, Policy, Refused}
-use Rattle.verdict.specs.declared.Geometry.{Geometry}
+use Rattle.geometry.specs.declared.Geometry.{Geometry}
 use Rattle.cache.specs.Tables.{Tables, rowAt, putRow, eachSet, total}
 use Rattle.cache.specs.Inside.{Shaped, Work, RowWork, onRow, dropsIn, dropsOf, Swept, AllSwept}
 use Rattle.cache.specs.declared.sets.Drops.{Drops}

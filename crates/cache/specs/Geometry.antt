@@ -1,6 +1,6 @@
 -- Document 01, "Geometry and tables": what an address is.
 use Prim.Native.Nat.{ℕ, _/_, _%_}
-use Rattle.verdict.specs.declared.Geometry.{Geometry}
+use Rattle.geometry.specs.declared.Geometry.{Geometry}
 
 -- "Lines have 64 bytes." "Line = address / 64; set = line mod S; tag = line / S (whole division)."
 abbrev pub lineOf : ℕ → ℕ

@@ -5,21 +5,23 @@ use Prim.Native.Nat.{ℕ, _+_, _*_, _≤_, _<_}
 use lib.Dec.{eqb}
 use lib.ListN.{length}
 use Rattle.replacement.specs.Rule.{Rule, ruleOf}
-use Rattle.row.specs.Row.{Row, Effect, asRead, dropped, droppedDirty, cleaned}
+use Rattle.row.specs.Row.{Row, Effect}
+use Rattle.policy.specs.Policy.{asRead, newMaps}
+use Rattle.sweep.specs.Clean.{dropped, droppedDirty, cleaned}
 use Rattle.row.specs.Row as Row
 use Rattle.row.specs.Calls.{accessOf, flushOf}
-use Rattle.row.specs.Sweep.{sweepBy}
-use Rattle.row.specs.declared.Sweep.{Sweep}
-use Rattle.row.specs.declared.Maps.{Maps}
+use Rattle.sweep.specs.Sweep.{sweepBy}
+use Rattle.sweep.specs.declared.Sweep.{Sweep}
+use Rattle.policy.specs.declared.Maps.{Maps}
 use Rattle.row.specs.declared.Answer.{Answer}
 use Rattle.row.specs.declared.Answer.the-variants.{Hit, Fill, Evict, Pass, Flush, Absent, Policy, Refused}
 use Rattle.verdict.specs.Domains.{mapsOf}
-use Rattle.verdict.specs.Refusal.{newMaps, useRefusal}
+use Rattle.verdict.specs.Refusal.{useRefusal}
 use Rattle.verdict.specs.Calls.{policyRefusalOf}
-use Rattle.verdict.specs.Inside.{Limited}
+use Rattle.geometry.specs.Inside.{Limited}
 use Rattle.verdict.specs.declared.Domain.{Domain}
 use Rattle.verdict.specs.declared.Policies.{Policies}
-use Rattle.verdict.specs.declared.Geometry.{Geometry}
+use Rattle.geometry.specs.declared.Geometry.{Geometry}
 use Rattle.cache.specs.Geometry.{setOf, tagOf}
 use Rattle.cache.specs.Tables.{Tables, rowAt, putRow, eachSet, total}
 use Rattle.cache.specs.Domains.{counted}

@@ -6,13 +6,16 @@ use lib.Dec.{eqb}
 use Rattle.replacement.specs.Rule.{Rule, ruleOf}
 use Rattle.row.specs.Answer.{answerOf}
 use Rattle.row.specs.Row as Row
-use Rattle.row.specs.Row.{Row, Effect, asRead}
-use Rattle.row.specs.declared.Maps.{Maps}
+use Rattle.row.specs.Row.{Row, Effect}
+use Rattle.sweep.specs.Clean.{dropped, droppedDirty, cleaned}
+use Rattle.policy.specs.Policy.{asRead, newMaps}
+use Rattle.policy.specs.declared.Maps.{Maps}
 use Rattle.row.specs.declared.Answer.{Answer}
 use Rattle.row.specs.declared.Answer.the-variants.{Policy, Refused}
 use Rattle.verdict.specs.Domains.{noCounts, domainOf, policies}
-use Rattle.verdict.specs.Refusal.{Kind, access, flush, policy, unknown, kindOf, newMaps, refusal}
-use Rattle.verdict.specs.declared.Geometry.{Geometry}
+use Rattle.command.specs.Kind.{Kind, access, flush, policy, unknown, kindOf}
+use Rattle.verdict.specs.Refusal.{refusal}
+use Rattle.geometry.specs.declared.Geometry.{Geometry}
 use Rattle.verdict.specs.declared.Counts.{Counts}
 use Rattle.verdict.specs.declared.Domain.{Domain}
 use Rattle.verdict.specs.declared.Domains.{Domains}
@@ -68,9 +71,9 @@ changePolicy g d arg s =
     let old = policies W (s .domains) d in
     let new = asRead W (newMaps arg) in
     answers
-    (Policy (total W (g .sets) (Row.dropped old new) (s .tables)) (total W (g .sets) (Row.droppedDirty old new) (s .tables)))
+    (Policy (total W (g .sets) (dropped old new) (s .tables)) (total W (g .sets) (droppedDirty old new) (s .tables)))
     (record {
-      tables = eachSet W (g .sets) (Row.cleaned (ruleOf (g .rule) W) old new) (s .tables);
+      tables = eachSet W (g .sets) (cleaned (ruleOf (g .rule) W) old new) (s .tables);
       domains = putDomain d (newDomain arg (domainOf (s .domains) d)) (s .domains);
     })
 

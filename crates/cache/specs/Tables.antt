@@ -3,7 +3,7 @@ use mathlib.Core.List.{List, _++_}
 use Prim.Native.Nat.{ℕ, zero, suc, _+_, _*_}
 use lib.ListN.{length, getD, take, drop, set}
 use Rattle.row.specs.Row.{Row}
-use Rattle.verdict.specs.Geometry.{Lengths}
+use Rattle.geometry.specs.Geometry.{Lengths}
 
 -- "tags, S × W words of 64 bits, the W tags of a set side by side; valid and dirty, one 16-bit map per set each; replacement, one 64-bit
 -- word per set."

@@ -116,7 +116,7 @@ pub fn after_use(own: Domain, answer: Answer) -> Used
 pub fn after_change(own: Domain, argument: u64, drops: Drops) -> Used
     ensures { λ r. ⌜ r ≡ record { answer = Policy (drops .dropped) (drops .dirty); own = newDomain argument own } ⌝ }
 {
-    let new = verdict::new_maps(argument);
+    let new = policy::new_maps(argument);
     Used {
         answer: Answer::Policy {
             dropped: drops.dropped,

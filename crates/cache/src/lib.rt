@@ -4,10 +4,10 @@ mod place;
 mod sets;
 mod work;
 
+use command::Asked;
+use geometry::Geometry;
 use row::Answer;
-use verdict::Asked;
 use verdict::Domains;
-use verdict::Geometry;
 ghost use mathlib.Core.Path.{_≡_};
 ghost use Rattle.cache.specs.Step.{tablesOf, outcome, step as stepOf};
 
@@ -34,7 +34,7 @@ pub fn step(
         ≡ stepOf g domain kind argument
         (record { tables = tablesOf (now (tags .entry)) (now (valid .entry)) (now (dirty .entry)) (now (words .entry)); domains = domains }) ⌝ }
 {
-    let number = verdict::sizes(g, tags.len(), valid.len(), dirty.len(), words.len());
+    let number = geometry::sizes(g, tags.len(), valid.len(), dirty.len(), words.len());
     if number != 0 {
         return account::refused(number, domains);
     }
@@ -42,7 +42,7 @@ pub fn step(
         return account::refused(3, domains);
     }
     let own = domains.records[domain];
-    let asked = verdict::kind_of(kind);
+    let asked = command::kind_of(kind);
     match asked {
         Asked::Line { flush, store } => {
             let used = work::line(g, tags, valid, dirty, words, own, flush, store, argument);

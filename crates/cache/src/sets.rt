@@ -1,11 +1,11 @@
 // The work on the sets of the tables: a set's row is lent, and its maps and word are put back.
 use crate::place;
+use geometry::Geometry;
+use policy::Maps;
 use row::Answer;
 use row::Done;
 use row::Lines;
-use row::Maps;
-use row::Sweep;
-use verdict::Geometry;
+use sweep::Sweep;
 ghost use mathlib.Core.Path.{_≡_};
 ghost use Prim.Native.Nat.{_<_};
 ghost use Rattle.row.specs.Calls.{rowOf, result};
@@ -115,7 +115,7 @@ fn sweep_set(
         dirty: dirty[set],
         word: words[set],
     };
-    let done = row::swept(&mut tags[start..stop], lines, sweep);
+    let done = sweep::swept(&mut tags[start..stop], lines, sweep);
     let left = done.lines;
     valid[set] = left.valid;
     dirty[set] = left.dirty;

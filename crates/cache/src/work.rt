@@ -2,9 +2,9 @@
 use crate::account;
 use crate::account::Used;
 use crate::sets;
-use row::Maps;
+use geometry::Geometry;
+use policy::Maps;
 use verdict::Domain;
-use verdict::Geometry;
 use verdict::Policies;
 ghost use mathlib.Core.Path.{_≡_};
 ghost use Rattle.cache.specs.Step.{tablesOf};
@@ -65,7 +65,7 @@ pub fn policy(
         hit: own.hit,
         fill: own.fill,
     };
-    let sweep = row::sweep_of(g.ways, g.rule, old, verdict::new_maps(argument));
+    let sweep = sweep::sweep_of(g.ways, g.rule, old, policy::new_maps(argument));
     let drops = sets::sweep_sets(g, tags, valid, dirty, words, sweep);
     account::after_change(own, argument, drops)
 }

@@ -9,9 +9,13 @@ use Rattle.tree.specs.Tree as Tree
 use Rattle.waymap.specs.Ways.{isWays}
 use Rattle.replacement.specs.Calls.{inLimits}
 use Rattle.row.specs.Row as Row
-use Rattle.verdict.specs.Geometry.{isPower, within, sized}
+use Rattle.sweep.specs.Clean as Clean
+use Rattle.lookup.specs.Lookup as Lookup
+use Rattle.geometry.specs.Geometry.{isPower, within, sized}
 use Rattle.verdict.specs.Domains.{domainOf, policies, isFull}
-use Rattle.verdict.specs.Refusal.{kindOf, newMaps, badArgument, sharesWay, sharesNode, useRefusal, policyRefusal, refusalBy, refusal}
+use Rattle.command.specs.Kind.{kindOf}
+use Rattle.policy.specs.Policy.{asRead, newMaps, badArgument}
+use Rattle.verdict.specs.Refusal.{sharesWay, sharesNode, useRefusal, policyRefusal, refusalBy, refusal}
 use Rattle.cache.specs.Geometry.{setOf, tagOf}
 use Rattle.cache.specs.Tables.{rowAt, putRow, eachSet, total}
 use Rattle.cache.specs.Domains.{putDomain, counted}
@@ -23,8 +27,8 @@ use Rattle.cases.specs.Cases.{Case, cases}
 pub worked : (u : ℕ) → map (λ (c : Case). c .given) (cases u) ≡ map (λ (c : Case). c .printed) (cases u)
 unfolding answersOf step decided stepBy changePolicy newDomain useLine rowEffect onSet refusal refusalBy policyRefusal useRefusal
     sharesNode sharesWay badArgument newMaps kindOf counted isFull policies putDomain domainOf total eachSet putRow rowAt sized
-    tagOf setOf within isPower freshTables freshDomains fresh isWays inLimits Row.asRead Row.matches Row.isHit Row.hitWay
-    Row.hitAt Row.filled Row.vacant Row.fillAt Row.evictAt Row.accessBy Row.access Row.moved Row.without Row.wiped Row.dropped
-    Row.droppedDirty Row.cleaned bit word any lowest count put reaches xor Tree.passes Tree.under Tree.holds Tree.free
+    tagOf setOf within isPower freshTables freshDomains fresh isWays inLimits asRead Lookup.matches Lookup.isHit Lookup.hitWay
+    Row.hitAt Row.filled Row.vacant Row.fillAt Row.evictAt Row.accessBy Row.access Clean.moved Clean.without Clean.wiped Clean.dropped
+    Clean.droppedDirty Clean.cleaned bit word any lowest count put reaches xor Tree.passes Tree.under Tree.holds Tree.free
     Tree.forcedRight Tree.walk Tree.walked Tree.victim Tree.touch Tree.changes Tree.reset Tree.shares Nru.victim Nru.before Nru.touch cases
 worked u = refl

@@ -6,7 +6,7 @@ use lib.ListN.{getD}
 use Rattle.waymap.specs.Bits.{bit, word}
 use Rattle.tree.specs.Tree as Tree
 use Rattle.replacement.specs.Rule.{Rule, tree, nru}
-use Rattle.verdict.specs.declared.Geometry.{Geometry}
+use Rattle.geometry.specs.declared.Geometry.{Geometry}
 use Rattle.command.specs.Command.{Command}
 use Rattle.cache.specs.Run.{answersOf}
 use Rattle.fresh.specs.Fresh.{fresh}

@@ -1,3 +1,4 @@
 -- The laws that the crates above cite.
 pub mod CommandLaws
 pub mod ListLaws
+pub mod KindLaws

@@ -1,2 +1,3 @@
--- A step of a run, and the code by which traces tell it.
+-- A step of a run: the code by which traces tell it, and what its kind asks for.
 pub mod Command
+pub mod Kind

@@ -1,6 +1,7 @@
-// A step to take, and its code.
+// A step to take, its code, and what its kind asks for.
 ghost use mathlib.Core.Path.{_≡_};
 ghost use Rattle.command.specs.Command.{commandOf, codeOf, commandIs};
+ghost use Rattle.command.specs.Kind.{kindOf, kindIs};
 
 // The domain that a step names, its kind and its argument.
 pub struct Command {
@@ -24,5 +25,33 @@ pub fn command_of(code: u16, argument: u64) -> Command
         domain: (code % 256) as u8,
         kind: (code / 256) as u8,
         argument,
+    }
+}
+
+// What a kind number asks for.
+pub enum Asked {
+    Line { flush: bool, store: bool },
+    Policy,
+    Unknown,
+}
+
+pub fn kind_of(kind: u8) -> Asked
+    ensures { λ r. ⌜ kindIs r ≡ kindOf kind ⌝ }
+{
+    match kind {
+        0..=1 => Asked::Line {
+            flush: false,
+            store: false,
+        },
+        2 => Asked::Line {
+            flush: false,
+            store: true,
+        },
+        3 => Asked::Line {
+            flush: true,
+            store: false,
+        },
+        16 => Asked::Policy,
+        4..=15 | 17..=255 => Asked::Unknown,
     }
 }

@@ -11,10 +11,9 @@ use Rattle.waymap.proofs.Booleans.{cases}
 use Rattle.replacement.specs.Rule.{Rule, ruleOf}
 use Rattle.replacement.specs.Calls.{Result, result, inLimits, freshOf as freshWord}
 use Rattle.replacement.specs.declared.Outcome.{Outcome}
-use Rattle.verdict.specs.Geometry.{within, sized}
-use Rattle.verdict.specs.Calls.{sizesOf}
-use Rattle.verdict.specs.declared.Geometry.{Geometry}
-use Rattle.verdict.proofs.RefusalLaws.{sizes-passed}
+use Rattle.geometry.specs.Geometry.{within, sized, sizesOf}
+use Rattle.geometry.specs.declared.Geometry.{Geometry}
+use Rattle.geometry.proofs.GeometryLaws.{sizes-passed}
 use Rattle.cache.specs.Tables.{Tables, lengths}
 use Rattle.fresh.specs.Fresh.{freshTables, Made, madeOf, freshOf}
 use Rattle.cache.specs.Step.{tablesOf}

@@ -3,9 +3,9 @@ use mathlib.Core.Bool.{cond, not}
 use Prim.Native.Nat.{ℕ, _*_}
 use lib.ListN.{replicate}
 use Rattle.replacement.specs.Rule.{Rule, ruleOf}
-use Rattle.verdict.specs.Geometry.{within, sized}
+use Rattle.geometry.specs.Geometry.{within, sized}
 use Rattle.verdict.specs.Domains.{maxDomains, noDomain}
-use Rattle.verdict.specs.declared.Geometry.{Geometry}
+use Rattle.geometry.specs.declared.Geometry.{Geometry}
 use Rattle.verdict.specs.declared.Domains.{Domains}
 use Rattle.cache.specs.Tables.{Tables, lengths}
 use Rattle.cache.specs.Step.{State}

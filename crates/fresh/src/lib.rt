@@ -1,10 +1,10 @@
 // A fresh cache.
 mod fill;
 
+use geometry::Geometry;
 use verdict::Counts;
 use verdict::Domain;
 use verdict::Domains;
-use verdict::Geometry;
 ghost use mathlib.Core.Path.{_≡_};
 ghost use Rattle.cache.specs.Step.{tablesOf};
 ghost use Rattle.fresh.specs.Fresh.{freshDomains, madeOf, freshOf};
@@ -21,7 +21,7 @@ pub fn fresh_tables(
         ⌜ madeOf r (tablesOf (now (tags .exit)) (now (valid .exit)) (now (dirty .exit)) (now (words .exit)))
         ≡ freshOf g (tablesOf (now (tags .entry)) (now (valid .entry)) (now (dirty .entry)) (now (words .entry))) ⌝ }
 {
-    let number = verdict::sizes(g, tags.len(), valid.len(), dirty.len(), words.len());
+    let number = geometry::sizes(g, tags.len(), valid.len(), dirty.len(), words.len());
     if number != 0 {
         return number;
     }

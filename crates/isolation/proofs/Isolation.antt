@@ -1,39 +1,36 @@
 -- The struck-out run, as one theorem.
-use mathlib.Core.Path.{_≡_, refl, sym, ap, ap₂, subst, _∙_}
-use mathlib.Core.Bool.{Bool, true, false, cond, not, _&&_, _||_, and-false}
+use mathlib.Core.Path.{_≡_, refl, ap₂}
+use mathlib.Core.Bool.{true, false, _&&_, and-false}
 use mathlib.Core.List.{List, [], _∷_}
-use Prim.Native.Nat.{ℕ, _*_, _≤_, _<_}
-use native.Mathlib.Nat.{le-trans}
+use Prim.Native.Nat.{ℕ, _*_, _<_}
 use native.Mathlib.Omega.{arith}
-use lib.Dec.{eqb, ltb, lit≤}
-use lib.ListN.{length, replicate, length-replicate, getD, getD-replicate, List·getD-eq-default}
+use lib.Dec.{eqb, ltb}
+use lib.ListN.{replicate, length-replicate, getD-replicate, List·getD-eq-default}
 use borrow.Author.Tests.{ne-eqb, ltb-true, ltb-false}
-use Rattle.waymap.specs.Bits.{Bits, bit, word}
+use Rattle.waymap.specs.Bits.{bit}
 use Rattle.waymap.proofs.Booleans.{cases}
 use Rattle.waymap.proofs.BitLaws.{bit-none}
 use Rattle.waymap.proofs.WordLaws.{bit-word}
-use Rattle.replacement.specs.Rule.{Rule, ruleOf}
-use Rattle.row.specs.Row.{Row, asRead}
-use Rattle.row.specs.declared.Maps.{Maps}
+use Rattle.replacement.specs.Rule.{ruleOf}
+use Rattle.policy.specs.Policy.{asRead}
 use Rattle.row.proofs.LineLaws.{same-line}
-use Rattle.verdict.specs.Geometry.{within}
+use Rattle.geometry.specs.Geometry.{within}
 use Rattle.verdict.specs.Domains.{noDomain, domainOf, policies}
-use Rattle.verdict.specs.Inside.{Limited}
-use Rattle.verdict.specs.declared.Geometry.{Geometry}
-use Rattle.verdict.specs.declared.Domain.{Domain}
-use Rattle.verdict.proofs.GeometryLaws.{limited}
+use Rattle.geometry.specs.Inside.{Limited}
+use Rattle.geometry.specs.declared.Geometry.{Geometry}
+use Rattle.geometry.proofs.GeometryLaws.{limited}
 use Rattle.cache.specs.Tables.{rowAt}
-use Rattle.cache.specs.Step.{State, Outcome, step}
+use Rattle.cache.specs.Step.{State}
 use Rattle.command.specs.Command.{Command}
 use Rattle.cache.specs.Run.{stepOn, answersOf, finally}
 use Rattle.fresh.specs.Fresh.{freshTables, freshDomains, fresh}
-use Rattle.cache.specs.Inside.{Shaped}
-use Rattle.isolation.specs.Purge.{belongs, keeps, purge}
+use Rattle.purge.specs.Purge.{belongs, keeps, purge}
 use Rattle.isolation.specs.StruckOut.{answersTo, ownAnswers, verdicts, SameTo, StruckOut}
-use Rattle.isolation.proofs.Relation.{Whole, Separate, Related, Alike}
+use Rattle.isolation.proofs.Relation.{Whole, Related}
 use Rattle.isolation.proofs.RowUnwinding.{rule, view-same}
 use Rattle.isolation.proofs.LineUnwinding.{policy-cut}
-use Rattle.isolation.proofs.Unwinding.{output-consistent, verdict-consistent, step-consistent, locally-respects, struck}
+use Rattle.isolation.proofs.Unwinding.{output-consistent, verdict-consistent, step-consistent, locally-respects}
+use Rattle.purge.proofs.KeepLaws.{struck}
 
 -- ---- a fresh cache is related to itself
 

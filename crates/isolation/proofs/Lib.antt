@@ -6,4 +6,3 @@ pub mod PolicyUnwinding
 pub mod Unwinding
 pub mod Isolation
 pub mod Witness
-pub mod PurgeLaws

@@ -10,14 +10,16 @@ use Rattle.waymap.specs.Bits.{bit}
 use Rattle.waymap.proofs.Booleans.{cases}
 use Rattle.replacement.specs.Rule.{Rule, ruleOf}
 use Rattle.row.specs.Row as Row
-use Rattle.row.specs.Row.{Row, Effect, asRead}
+use Rattle.row.specs.Row.{Row, Effect}
+use Rattle.policy.specs.Policy.{asRead}
 use Rattle.row.specs.Answer.{answerOf}
-use Rattle.row.specs.declared.Maps.{Maps}
+use Rattle.policy.specs.declared.Maps.{Maps}
 use Rattle.row.specs.declared.Answer.{Answer}
-use Rattle.row.proofs.LineLaws.{Cut, cut-read, access-long, flush-long}
+use Rattle.policy.proofs.ReadLaws.{Cut, cut-read}
+use Rattle.row.proofs.LineLaws.{access-long, flush-long}
 use Rattle.verdict.specs.Domains.{domainOf, policies}
-use Rattle.verdict.specs.Inside.{Limited}
-use Rattle.verdict.specs.declared.Geometry.{Geometry}
+use Rattle.geometry.specs.Inside.{Limited}
+use Rattle.geometry.specs.declared.Geometry.{Geometry}
 use Rattle.verdict.specs.declared.Domain.{Domain}
 use Rattle.verdict.specs.declared.Domains.{Domains}
 use Rattle.cache.specs.Geometry.{setOf, tagOf}

@@ -12,18 +12,21 @@ use Rattle.waymap.proofs.Booleans.{cases, not-both, or-none}
 use Rattle.waymap.proofs.WayLaws.{none-at}
 use Rattle.replacement.specs.Rule.{Rule, ruleOf}
 use Rattle.replacement.specs.Isolates.{Isolates, Apart}
-use Rattle.row.specs.Row.{Row, asRead, dropped, droppedDirty, cleaned}
+use Rattle.row.specs.Row.{Row}
+use Rattle.policy.specs.Policy.{asRead, newMaps, badArgument}
+use Rattle.sweep.specs.Clean.{dropped, droppedDirty, cleaned}
 use Rattle.row.specs.Answer.{answerOf}
-use Rattle.row.specs.declared.Maps.{Maps}
+use Rattle.policy.specs.declared.Maps.{Maps}
 use Rattle.row.specs.declared.Answer.the-variants.{Policy}
-use Rattle.row.proofs.LineLaws.{Cut, clean-long}
+use Rattle.policy.proofs.ReadLaws.{Cut}
+use Rattle.sweep.proofs.CleanLaws.{clean-long}
 use Rattle.verdict.specs.Domains.{domainOf, policies}
-use Rattle.verdict.specs.Refusal.{newMaps, badArgument, sharesWay, sharesNode, policyRefusal}
-use Rattle.verdict.specs.Inside.{Limited}
-use Rattle.verdict.specs.declared.Geometry.{Geometry}
+use Rattle.verdict.specs.Refusal.{sharesWay, sharesNode, policyRefusal}
+use Rattle.geometry.specs.Inside.{Limited}
+use Rattle.geometry.specs.declared.Geometry.{Geometry}
 use Rattle.verdict.specs.declared.Domain.{Domain}
 use Rattle.verdict.specs.declared.Domains.{Domains}
-use Rattle.verdict.proofs.RefusalLaws.{good-maps}
+use Rattle.policy.proofs.ArgumentLaws.{good-maps}
 use Rattle.cache.specs.Tables.{Tables, rowAt, eachSet, total}
 use Rattle.cache.specs.Domains.{putDomain}
 use Rattle.cache.specs.Step.{State, Outcome, newDomain, changePolicy}

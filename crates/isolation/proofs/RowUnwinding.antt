@@ -11,11 +11,12 @@ use Rattle.waymap.proofs.Booleans.{cases, not-both}
 use Rattle.replacement.specs.Rule.{Rule, ruleOf}
 use Rattle.replacement.specs.Isolates.{Isolates, SameOwn, Apart}
 use Rattle.replacement.proofs.RuleLaws.{isolates}
-use Rattle.row.specs.Row.{Row, Effect, access, flush, moved, cleaned, dropped, droppedDirty}
+use Rattle.row.specs.Row.{Row, Effect, access, flush}
+use Rattle.sweep.specs.Clean.{moved, cleaned, dropped, droppedDirty}
 use Rattle.row.specs.View.{SameLine, SameView}
-use Rattle.row.specs.declared.Maps.{Maps}
+use Rattle.policy.specs.declared.Maps.{Maps}
+use Rattle.policy.proofs.ReadLaws.{Cut}
 use Rattle.row.proofs.LineLaws.{
-  Cut,
   line-trans,
   line-sym,
   access-leaves,
@@ -27,13 +28,10 @@ use Rattle.row.proofs.LineLaws.{
   flush-word,
   flush-agrees,
   flush-answer,
-  clean-gone,
-  clean-agrees,
-  drops-same,
-  dirty-drops-same,
 }
-use Rattle.verdict.specs.Inside.{Limited}
-use Rattle.verdict.specs.declared.Geometry.{Geometry}
+use Rattle.sweep.proofs.CleanLaws.{clean-gone, clean-agrees, drops-same, dirty-drops-same}
+use Rattle.geometry.specs.Inside.{Limited}
+use Rattle.geometry.specs.declared.Geometry.{Geometry}
 use Rattle.isolation.proofs.Relation.{Separate, Unheld, Unwritten, Alike}
 
 -- a way that does not move and is not there afterwards was not there before; one that moves and was not there before is gained

@@ -1,47 +1,31 @@
 -- The unwinding lemmas of Goguen and Meseguer, for one step: `output-consistent`, `step-consistent` and `locally-respects`.
-use mathlib.Core.Path.{_≡_, refl, sym, ap, ap₂, subst, fun-ext, _∙_}
-use mathlib.Core.Bool.{Bool, true, false, cond, not, _&&_, _||_, true≢false}
-use mathlib.Core.List.{List, [], _∷_}
-use Prim.Native.Nat.{ℕ, zero, suc, _*_, _≤_, _<_}
+use mathlib.Core.Path.{_≡_, refl, sym, fun-ext, _∙_}
+use mathlib.Core.Bool.{true, false}
+use Prim.Native.Nat.{ℕ, _*_, _≤_, _<_}
 use native.Mathlib.Omega.{arith}
 use lib.Dec.{eqb, leb, ltb}
-use lib.ListN.{length}
-use borrow.Author.Tests.{not-true, not-false, eqb-true, eqb-false, eq-eqb, ne-eqb, leb-true, leb-false, ltb-true, ltb-false, le-ltb, le-leb, lt-leb}
+use borrow.Author.Tests.{eqb-true, eqb-false, eq-eqb, ne-eqb, leb-true, leb-false, ltb-false, le-ltb, le-leb, lt-leb}
 use Rattle.waymap.proofs.Booleans.{cases}
-use Rattle.replacement.specs.Rule.{Rule, ruleOf}
-use Rattle.row.specs.Answer.{answerOf}
-use Rattle.row.specs.declared.Maps.{Maps}
+use Rattle.replacement.specs.Rule.{ruleOf}
 use Rattle.row.specs.declared.Answer.the-variants.{Refused}
-use Rattle.verdict.specs.Geometry.{within, Lengths, sized}
+use Rattle.geometry.specs.Geometry.{within, sized}
 use Rattle.verdict.specs.Domains.{domainOf, policies}
-use Rattle.verdict.specs.Refusal.{Kind, access, flush, policy, unknown, kindOf, useRefusal, policyRefusal, refusalBy, refusal}
-use Rattle.verdict.specs.Inside.{Limited}
-use Rattle.verdict.specs.declared.Geometry.{Geometry}
-use Rattle.verdict.specs.declared.Counts.{Counts}
-use Rattle.verdict.specs.declared.Domain.{Domain}
-use Rattle.verdict.proofs.GeometryLaws.{limited}
-use Rattle.cache.specs.Tables.{Tables, lengths}
+use Rattle.command.specs.Kind.{Kind, access, flush, policy, unknown, kindOf}
+use Rattle.verdict.specs.Refusal.{useRefusal, policyRefusal, refusalBy, refusal}
+use Rattle.geometry.specs.Inside.{Limited}
+use Rattle.geometry.specs.declared.Geometry.{Geometry}
+use Rattle.geometry.proofs.GeometryLaws.{limited}
+use Rattle.cache.specs.Tables.{lengths}
 use Rattle.cache.specs.Step.{State, Outcome, answers, useLine, changePolicy, stepBy, decided, step}
 use Rattle.command.specs.Command.{Command}
 use Rattle.cache.specs.Run.{stepOn}
-use Rattle.cache.specs.Inside.{Shaped, lineWork}
-use Rattle.isolation.specs.Purge.{belongs, keeps}
+use Rattle.cache.specs.Inside.{lineWork}
+use Rattle.purge.specs.Purge.{belongs, keeps}
+use Rattle.purge.proofs.KeepLaws.{struck, kept-kind}
 use Rattle.isolation.specs.StruckOut.{numberOf}
-use Rattle.isolation.proofs.Relation.{Whole, Separate, Related}
+use Rattle.isolation.proofs.Relation.{Whole, Related}
 use Rattle.isolation.proofs.LineUnwinding.{own-line, other-line}
 use Rattle.isolation.proofs.PolicyUnwinding.{policy-related, policy-answer}
-
--- What is struck out belongs to another domain, and is an access or a flush.
-pub record Struck (d : ℕ) (c : Command) : Type 0 where
-  pub other : belongs d c ≡ false
-  pub kind : c .kind < 4
-
-pub struck : (d : ℕ) (c : Command) → keeps d c ≡ false → Struck d c
-unfolding keeps
-struck d c t =
-    let other : belongs d c ≡ false = cases (belongs d c) (λ u. absurd (true≢false (rw u at t))) (λ u. u) in
-    let kind : not (ltb (c .kind) 4) ≡ false = rw other at t in
-    record { other = other; kind = ltb-true (c .kind) 4 (not-false (ltb (c .kind) 4) kind) }
 
 module _ (g : Geometry) (limits : within g ≡ true) (d : ℕ) (low : d < 16) where
   l : Limited g
@@ -202,11 +186,10 @@ module _ (g : Geometry) (limits : within g ≡ true) (d : ℕ) (low : d < 16) wh
 
     -- a step that stays leads from related states to related states
     pub step-consistent : (c : Command) → keeps d c ≡ true → Related g d (stepOn g c a .state) (stepOn g c b .state)
-    unfolding keeps
     step-consistent c t =
         cases (belongs d c)
         (λ u. own-step c (eqb-true (c .domain) d u) .related)
-        (λ u. let v : not (ltb (c .kind) 4) ≡ true = rw u at t in kept-step c (ltb-false (c .kind) 4 (not-true (ltb (c .kind) 4) v)) .related)
+        (λ u. kept-step c (kept-kind d c t u) .related)
 
     -- a step that is struck out leads to a state that is related to where it started
     pub locally-respects : (c : Command) → keeps d c ≡ false → Related g d (stepOn g c a .state) b

@@ -9,10 +9,14 @@ use Rattle.tree.specs.Tree as Tree
 use Rattle.waymap.specs.Ways.{isWays}
 use Rattle.replacement.specs.Calls.{inLimits}
 use Rattle.row.specs.Row as Row
-use Rattle.verdict.specs.Geometry.{isPower, within, sized}
+use Rattle.sweep.specs.Clean as Clean
+use Rattle.lookup.specs.Lookup as Lookup
+use Rattle.geometry.specs.Geometry.{isPower, within, sized}
 use Rattle.verdict.specs.Domains.{domainOf, policies, isFull}
-use Rattle.verdict.specs.Refusal.{kindOf, newMaps, badArgument, sharesWay, sharesNode, useRefusal, policyRefusal, refusalBy, refusal}
-use Rattle.verdict.specs.declared.Geometry.{Geometry}
+use Rattle.command.specs.Kind.{kindOf}
+use Rattle.policy.specs.Policy.{asRead, newMaps, badArgument}
+use Rattle.verdict.specs.Refusal.{sharesWay, sharesNode, useRefusal, policyRefusal, refusalBy, refusal}
+use Rattle.geometry.specs.declared.Geometry.{Geometry}
 use Rattle.verdict.specs.declared.Counts.{Counts}
 use Rattle.cache.specs.Geometry.{setOf, tagOf}
 use Rattle.cache.specs.Tables.{rowAt, putRow, eachSet, total}
@@ -21,7 +25,7 @@ use Rattle.cache.specs.Step.{State, onSet, rowEffect, useLine, newDomain, chang
 use Rattle.command.specs.Command.{Command}
 use Rattle.cache.specs.Run.{answersOf, finally}
 use Rattle.fresh.specs.Fresh.{freshTables, freshDomains, fresh}
-use Rattle.isolation.specs.Purge.{keeps, purge}
+use Rattle.purge.specs.Purge.{keeps, purge}
 use Rattle.isolation.specs.StruckOut.{answersTo, ownAnswers, numberOf, verdicts}
 
 abbrev does : ℕ → ℕ → ℕ → Command
@@ -62,8 +66,8 @@ record NotEmpty : Type 0 where
 not-empty : NotEmpty
 unfolding answersTo ownAnswers verdicts numberOf purge keeps answersOf finally step decided stepBy changePolicy newDomain useLine rowEffect onSet refusal
     refusalBy policyRefusal useRefusal sharesNode sharesWay badArgument newMaps kindOf counted isFull policies putDomain domainOf total eachSet putRow rowAt
-    sized tagOf setOf within isPower freshTables freshDomains fresh isWays inLimits Row.asRead Row.matches Row.isHit Row.hitWay Row.hitAt Row.filled
-    Row.vacant Row.fillAt Row.evictAt Row.accessBy Row.access Row.flushAt Row.flush Row.moved Row.without Row.wiped Row.dropped Row.droppedDirty Row.cleaned
+    sized tagOf setOf within isPower freshTables freshDomains fresh isWays inLimits asRead Lookup.matches Lookup.isHit Lookup.hitWay Row.hitAt Row.filled
+    Row.vacant Row.fillAt Row.evictAt Row.accessBy Row.access Row.flushAt Row.flush Clean.moved Clean.without Clean.wiped Clean.dropped Clean.droppedDirty Clean.cleaned
     bit word any lowest count put reaches xor Tree.passes Tree.under Tree.holds Tree.free Tree.forcedRight Tree.walk Tree.walked Tree.victim Tree.touch
     Tree.changes Tree.reset Tree.shares
 not-empty = record { dropped = (refl, refl); works = refl; neighbour = refl; neighbour-struck = refl; handed-over = refl }
@@ -78,8 +82,8 @@ record OtherWays : Type 0 where
 other-ways : OtherWays
 unfolding answersTo ownAnswers verdicts numberOf purge keeps answersOf finally step decided stepBy changePolicy newDomain useLine rowEffect onSet refusal
     refusalBy policyRefusal useRefusal sharesNode sharesWay badArgument newMaps kindOf counted isFull policies putDomain domainOf total eachSet putRow rowAt
-    sized tagOf setOf within isPower freshTables freshDomains fresh isWays inLimits Row.asRead Row.matches Row.isHit Row.hitWay Row.hitAt Row.filled
-    Row.vacant Row.fillAt Row.evictAt Row.accessBy Row.access Row.flushAt Row.flush Row.moved Row.without Row.wiped Row.dropped Row.droppedDirty Row.cleaned
+    sized tagOf setOf within isPower freshTables freshDomains fresh isWays inLimits asRead Lookup.matches Lookup.isHit Lookup.hitWay Row.hitAt Row.filled
+    Row.vacant Row.fillAt Row.evictAt Row.accessBy Row.access Row.flushAt Row.flush Clean.moved Clean.without Clean.wiped Clean.dropped Clean.droppedDirty Clean.cleaned
     bit word any lowest count put reaches xor Tree.passes Tree.under Tree.holds Tree.free Tree.forcedRight Tree.walk Tree.walked Tree.victim Tree.touch
     Tree.changes Tree.reset Tree.shares
 other-ways = record { run = refl; purged = refl }
@@ -95,8 +99,8 @@ record OtherBits : Type 0 where
 other-bits : OtherBits
 unfolding answersTo ownAnswers verdicts numberOf purge keeps answersOf finally step decided stepBy changePolicy newDomain useLine rowEffect onSet refusal
     refusalBy policyRefusal useRefusal sharesNode sharesWay badArgument newMaps kindOf counted isFull policies putDomain domainOf total eachSet putRow rowAt
-    sized tagOf setOf within isPower freshTables freshDomains fresh isWays inLimits Row.asRead Row.matches Row.isHit Row.hitWay Row.hitAt Row.filled
-    Row.vacant Row.fillAt Row.evictAt Row.accessBy Row.access Row.flushAt Row.flush Row.moved Row.without Row.wiped Row.dropped Row.droppedDirty Row.cleaned
+    sized tagOf setOf within isPower freshTables freshDomains fresh isWays inLimits asRead Lookup.matches Lookup.isHit Lookup.hitWay Row.hitAt Row.filled
+    Row.vacant Row.fillAt Row.evictAt Row.accessBy Row.access Row.flushAt Row.flush Clean.moved Clean.without Clean.wiped Clean.dropped Clean.droppedDirty Clean.cleaned
     bit word any lowest count put reaches xor Tree.passes Tree.under Tree.holds Tree.free Tree.forcedRight Tree.walk Tree.walked Tree.victim Tree.touch
     Tree.changes Tree.reset Tree.shares
 other-bits = record { run = refl; purged = refl }
@@ -112,8 +116,8 @@ record OtherDrops : Type 0 where
 other-drops : OtherDrops
 unfolding answersTo ownAnswers verdicts numberOf purge keeps answersOf finally step decided stepBy changePolicy newDomain useLine rowEffect onSet refusal
     refusalBy policyRefusal useRefusal sharesNode sharesWay badArgument newMaps kindOf counted isFull policies putDomain domainOf total eachSet putRow rowAt
-    sized tagOf setOf within isPower freshTables freshDomains fresh isWays inLimits Row.asRead Row.matches Row.isHit Row.hitWay Row.hitAt Row.filled
-    Row.vacant Row.fillAt Row.evictAt Row.accessBy Row.access Row.flushAt Row.flush Row.moved Row.without Row.wiped Row.dropped Row.droppedDirty Row.cleaned
+    sized tagOf setOf within isPower freshTables freshDomains fresh isWays inLimits asRead Lookup.matches Lookup.isHit Lookup.hitWay Row.hitAt Row.filled
+    Row.vacant Row.fillAt Row.evictAt Row.accessBy Row.access Row.flushAt Row.flush Clean.moved Clean.without Clean.wiped Clean.dropped Clean.droppedDirty Clean.cleaned
     bit word any lowest count put reaches xor Tree.passes Tree.under Tree.holds Tree.free Tree.forcedRight Tree.walk Tree.walked Tree.victim Tree.touch
     Tree.changes Tree.reset Tree.shares
 other-drops = record { run = refl; purged = refl }

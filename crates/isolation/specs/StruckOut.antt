@@ -1,19 +1,19 @@
 -- What is equal in the run and in the struck-out run.
 use mathlib.Core.Path.{_≡_}
-use mathlib.Core.Bool.{Bool, true, cond, not, _&&_}
+use mathlib.Core.Bool.{Bool, cond, not, _&&_}
 use mathlib.Core.List.{List, [], _∷_, map}
 use Prim.Native.Nat.{ℕ, _<_}
 use lib.Dec.{eqb}
-use Rattle.replacement.specs.Rule.{Rule, ruleOf}
+use Rattle.replacement.specs.Rule.{ruleOf}
 use Rattle.row.specs.View.{SameView}
 use Rattle.verdict.specs.Domains.{domainOf, policies}
-use Rattle.verdict.specs.declared.Geometry.{Geometry}
+use Rattle.geometry.specs.declared.Geometry.{Geometry}
 use Rattle.cache.specs.Tables.{rowAt}
 use Rattle.cache.specs.Step.{State}
 use Rattle.command.specs.Command.{Command}
 use Rattle.cache.specs.Run.{answersOf, finally}
 use Rattle.fresh.specs.Fresh.{fresh}
-use Rattle.isolation.specs.Purge.{belongs, purge}
+use Rattle.purge.specs.Purge.{belongs, purge}
 
 -- Of the answers of a run, those to the steps that pass a test.
 unfoldable pub answersTo : (Command → Bool) → List Command → List (List ℕ) → List (List ℕ)

@@ -8,10 +8,14 @@ use Rattle.tree.specs.Tree as Tree
 use Rattle.waymap.specs.Ways.{isWays}
 use Rattle.replacement.specs.Calls.{inLimits}
 use Rattle.row.specs.Row as Row
-use Rattle.verdict.specs.Geometry.{isPower, within, sized}
+use Rattle.sweep.specs.Clean as Clean
+use Rattle.lookup.specs.Lookup as Lookup
+use Rattle.geometry.specs.Geometry.{isPower, within, sized}
 use Rattle.verdict.specs.Domains.{domainOf, policies, isFull}
-use Rattle.verdict.specs.Refusal.{kindOf, newMaps, badArgument, sharesWay, sharesNode, useRefusal, policyRefusal, refusalBy, refusal}
-use Rattle.verdict.specs.declared.Geometry.{Geometry}
+use Rattle.command.specs.Kind.{kindOf}
+use Rattle.policy.specs.Policy.{asRead, newMaps, badArgument}
+use Rattle.verdict.specs.Refusal.{sharesWay, sharesNode, useRefusal, policyRefusal, refusalBy, refusal}
+use Rattle.geometry.specs.declared.Geometry.{Geometry}
 use Rattle.verdict.specs.declared.Counts.{Counts}
 use Rattle.cache.specs.Geometry.{setOf, tagOf}
 use Rattle.cache.specs.Tables.{rowAt, putRow, eachSet, total}
@@ -46,9 +50,9 @@ listingA =
 pub case-a-listing : listing fileA ≡ listingA
 unfolding answersOf finally step decided stepBy changePolicy newDomain useLine rowEffect onSet refusal refusalBy policyRefusal
     useRefusal sharesNode sharesWay badArgument newMaps kindOf counted isFull policies putDomain domainOf total eachSet putRow
-    rowAt sized tagOf setOf within isPower freshTables freshDomains fresh isWays inLimits Row.asRead Row.matches Row.isHit
-    Row.hitWay Row.hitAt Row.filled Row.vacant Row.fillAt Row.evictAt Row.accessBy Row.access Row.flushAt Row.flush Row.moved
-    Row.without Row.wiped Row.dropped Row.droppedDirty Row.cleaned bit word any lowest count put reaches xor Tree.passes
+    rowAt sized tagOf setOf within isPower freshTables freshDomains fresh isWays inLimits asRead Lookup.matches Lookup.isHit
+    Lookup.hitWay Row.hitAt Row.filled Row.vacant Row.fillAt Row.evictAt Row.accessBy Row.access Row.flushAt Row.flush Clean.moved
+    Clean.without Clean.wiped Clean.dropped Clean.droppedDirty Clean.cleaned bit word any lowest count put reaches xor Tree.passes
     Tree.under Tree.holds Tree.free Tree.forcedRight Tree.walk Tree.walked Tree.victim Tree.touch Tree.changes Tree.reset Tree.shares commandOf
     value field lastSteps badFile fileRefusal decimalBy line told answerLines domainLine domainPart domainLines runLines listing
 case-a-listing = refl

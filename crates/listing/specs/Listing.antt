@@ -4,9 +4,9 @@ use mathlib.Core.List.{List, [], _∷_, _++_, map}
 use Prim.Native.Nat.{ℕ, zero, suc, _+_, _/_, _%_}
 use lib.Dec.{eqb, ltb}
 use lib.ListN.{getD}
-use Rattle.row.specs.Row.{asRead}
+use Rattle.policy.specs.Policy.{asRead}
 use Rattle.verdict.specs.Domains.{maxDomains, domainOf}
-use Rattle.verdict.specs.declared.Geometry.{Geometry}
+use Rattle.geometry.specs.declared.Geometry.{Geometry}
 use Rattle.verdict.specs.declared.Counts.{Counts}
 use Rattle.verdict.specs.declared.Domain.{Domain}
 use Rattle.verdict.specs.declared.Domains.{Domains}

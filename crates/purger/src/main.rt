@@ -97,7 +97,7 @@ fn purge(
     requires { ⌜ n ≤ length (now «kept_arguments») ⌝ }
 {
     split(file, n, codes, arguments);
-    let purged = isolation::purge_trace(domain, codes, arguments, kept_codes, kept_arguments);
+    let purged = purge::purge_trace(domain, codes, arguments, kept_codes, kept_arguments);
     let count = purged.count;
     if (n as usize) < count {
         return;

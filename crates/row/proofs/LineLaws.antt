@@ -1,49 +1,28 @@
 -- What the steps on a set do to one line: what they leave alone, and what they go by.
 use mathlib.Core.Path.{_≡_, refl, sym, ap, ap₂, _∙_}
-use mathlib.Core.Bool.{Bool, true, false, cond, not, _&&_, xor, false≢true}
+use mathlib.Core.Bool.{Bool, true, false, cond, not, _&&_, false≢true}
 use mathlib.Core.List.{List, [], _∷_}
 use Prim.Native.Nat.{ℕ, zero, suc, pred, _≤_, _<_}
 use native.Mathlib.Nat.{lt-of-lt-of-le}
 use native.Mathlib.Omega.{arith}
-use lib.Dec.{eqb, ltb}
+use lib.Dec.{eqb}
 use lib.ListN.{length, getD, set, length-set}
-use lib.Seq.{getD-set-same, getD-set-other}
-use borrow.Author.Tests.{ne-eqb, ltb-true}
-use Rattle.waymap.specs.Bits.{Bits, bit, word, any, lowest, count, put}
-use Rattle.waymap.proofs.Booleans.{cases, and-left, and-right}
-use Rattle.waymap.proofs.WordLaws.{bit-word, bit-word-in}
-use Rattle.waymap.proofs.WayLaws.{any-ext, lowest-ext, lowest-found, count-ext}
+use lib.Seq.{getD-set-other}
+use borrow.Author.Tests.{ne-eqb}
+use Rattle.waymap.specs.Bits.{bit, word, any, lowest, put}
+use Rattle.waymap.proofs.Booleans.{cases, and-left}
+use Rattle.waymap.proofs.WordLaws.{bit-word-in}
+use Rattle.waymap.proofs.WayLaws.{any-ext, lowest-ext, lowest-found}
 use Rattle.replacement.specs.Rule.{Rule}
-use Rattle.replacement.specs.Isolates.{Isolates, SameOwn}
-use Rattle.row.specs.Row.{
-  Row,
-  Effect,
-  ways,
-  asRead,
-  matches,
-  isHit,
-  hitWay,
-  hitAt,
-  vacant,
-  filled,
-  fillAt,
-  evictAt,
-  accessBy,
-  access,
-  flushAt,
-  flush,
-  moved,
-  without,
-  wiped,
-  dropped,
-  droppedDirty,
-  cleaned,
-}
+use Rattle.replacement.specs.Isolates.{Isolates}
+use Rattle.row.specs.Row.{Row, Effect, ways, isHit, hitWay, hitAt, vacant, filled, fillAt, evictAt, accessBy, access, flushAt, flush}
+use Rattle.lookup.specs.Lookup.{matches}
+use Rattle.lookup.proofs.LookupLaws.{hit-own}
+use Rattle.lookup.proofs.LookupLaws as LookupLaws
+use Rattle.policy.proofs.ReadLaws.{Cut}
 use Rattle.row.specs.View.{SameLine, SameView}
-use Rattle.row.specs.declared.Maps.{Maps}
-use Rattle.row.specs.declared.Answer.{Answer}
-use Rattle.row.specs.declared.Answer.the-variants.{Hit, Fill, Evict, Pass, Flush, Absent, Policy}
-use Rattle.row.proofs.TagLaws.{wiped-length, wiped-at}
+use Rattle.policy.specs.declared.Maps.{Maps}
+use Rattle.row.specs.declared.Answer.the-variants.{Hit, Fill, Evict, Pass, Flush}
 
 -- ---- one line
 
@@ -132,23 +111,10 @@ access-cases R p tag store r q P e f g hit pass fill evict =
     (λ u. rw u (cases (any (ways r) (vacant r (p .fill))) (λ v. rw v (fill v)) (λ v. rw v (evict u))))
     (λ u. rw u pass))))
 
--- ---- what a policy as read is: the fill map part of the hit map, both within the ways
-
-pub record Cut (W : ℕ) (p : Maps) : Type 0 where
-  pub part : (w : ℕ) → bit (p .fill) w ≡ true → bit (p .hit) w ≡ true
-  pub within : (w : ℕ) → bit (p .hit) w ≡ true → w < W
-
 module _ {W : ℕ} {R : Rule} (I : Isolates W R) (few : W ≤ 16) (p : Maps) (c : Cut W p) (tag : ℕ) where
   -- ---- the ways that an access or a flush works on are the domain's
 
   module _ (r : Row) (long : length (r .tags) ≡ W) where
-    hit-own : isHit r (p .hit) tag ≡ true → bit (p .hit) (hitWay r (p .hit) tag) ≡ true
-    unfolding isHit hitWay matches
-    hit-own e =
-        let w = hitWay r (p .hit) tag in
-        and-left (bit (p .hit) w) (bit (r .valid) w) (and-left (bit (p .hit) w && bit (r .valid) w) (eqb (getD (r .tags) w 0) tag)
-        (lowest-found (ways r) (matches r (p .hit) tag) e .1))
-
     vacant-own : any (ways r) (vacant r (p .fill)) ≡ true → bit (p .hit) (lowest (ways r) (vacant r (p .fill))) ≡ true
     unfolding vacant
     vacant-own e =
@@ -167,7 +133,7 @@ module _ {W : ℕ} {R : Rule} (I : Isolates W R) (few : W ≤ 16) (p : Maps) (c 
     unfolding fillAt evictAt
     access-leaves store v h b =
         access-cases R p tag store r r (λ e f. SameLine (e .row) r v) refl refl refl
-        (λ t. hit-other R (p .fill) store (hitWay r (p .hit) tag) r v low (apart (hitWay r (p .hit) tag) v (hit-own t) b))
+        (λ t. hit-other R (p .fill) store (hitWay r (p .hit) tag) r v low (apart (hitWay r (p .hit) tag) v (hit-own (r .tags) (r .valid) (p .hit) tag t) b))
         (same-line r v)
         (λ t. filled-other R (p .fill) tag store (lowest (ways r) (vacant r (p .fill))) (r .word) r v low
         (apart (lowest (ways r) (vacant r (p .fill))) v (vacant-own t) b))
@@ -193,8 +159,8 @@ module _ {W : ℕ} {R : Rule} (I : Isolates W R) (few : W ≤ 16) (p : Maps) (c 
     flush-leaves v h b =
         cases (isHit r (p .hit) tag)
         (λ t. rw t (record {
-          valid = put-other (hitWay r (p .hit) tag) false (r .valid) v (lt-of-lt-of-le h few) (apart (hitWay r (p .hit) tag) v (hit-own t) b);
-          dirty = put-other (hitWay r (p .hit) tag) false (r .dirty) v (lt-of-lt-of-le h few) (apart (hitWay r (p .hit) tag) v (hit-own t) b);
+          valid = put-other (hitWay r (p .hit) tag) false (r .valid) v (lt-of-lt-of-le h few) (apart (hitWay r (p .hit) tag) v (hit-own (r .tags) (r .valid) (p .hit) tag t) b);
+          dirty = put-other (hitWay r (p .hit) tag) false (r .dirty) v (lt-of-lt-of-le h few) (apart (hitWay r (p .hit) tag) v (hit-own (r .tags) (r .valid) (p .hit) tag t) b);
           tag = refl;
         }))
         (λ t. rw t (same-line r v))
@@ -209,7 +175,7 @@ module _ {W : ℕ} {R : Rule} (I : Isolates W R) (few : W ≤ 16) (p : Maps) (c 
     as-long : ways r ≡ ways q
     as-long = long-r ∙ sym long-q
 
-    matches-same : (w : ℕ) → matches r (p .hit) tag w ≡ matches q (p .hit) tag w
+    matches-same : (w : ℕ) → matches (r .tags) (r .valid) (p .hit) tag w ≡ matches (q .tags) (q .valid) (p .hit) tag w
     unfolding matches
     matches-same w =
         cases (bit (p .hit) w)
@@ -221,12 +187,10 @@ module _ {W : ℕ} {R : Rule} (I : Isolates W R) (few : W ≤ 16) (p : Maps) (c 
     vacant-same w = cases (bit (p .fill) w) (λ t. rw t (ap not (s .lines w (c .part w t) .valid))) (λ t. rw t)
 
     hit-same : isHit r (p .hit) tag ≡ isHit q (p .hit) tag
-    unfolding isHit
-    hit-same = ap (λ (n : ℕ). any n (matches r (p .hit) tag)) as-long ∙ any-ext (ways q) (λ w h. matches-same w)
+    hit-same = LookupLaws.hit-same (r .tags) (q .tags) (r .valid) (q .valid) (p .hit) tag as-long matches-same
 
     way-same : hitWay r (p .hit) tag ≡ hitWay q (p .hit) tag
-    unfolding hitWay
-    way-same = ap (λ (n : ℕ). lowest n (matches r (p .hit) tag)) as-long ∙ lowest-ext (ways q) (λ w h. matches-same w)
+    way-same = LookupLaws.way-same (r .tags) (q .tags) (r .valid) (q .valid) (p .hit) tag as-long matches-same
 
     fill-same : any (ways r) (bit (p .fill)) ≡ any (ways q) (bit (p .fill))
     fill-same = ap (λ (n : ℕ). any n (bit (p .fill))) as-long
@@ -289,7 +253,7 @@ module _ {W : ℕ} {R : Rule} (I : Isolates W R) (few : W ≤ 16) (p : Maps) (c 
     unfolding flush flushAt
     flush-answer =
         rw (← hit-same, ← way-same)
-        (cases (isHit r (p .hit) tag) (λ t. rw t (ap (Flush (hitWay r (p .hit) tag)) (s .lines (hitWay r (p .hit) tag) (hit-own r long-r t) .dirty)))
+        (cases (isHit r (p .hit) tag) (λ t. rw t (ap (Flush (hitWay r (p .hit) tag)) (s .lines (hitWay r (p .hit) tag) (hit-own (r .tags) (r .valid) (p .hit) tag t) .dirty)))
         (λ t. rw t))
 
     pub flush-agrees : (v : ℕ) → v < W → SameLine r q v → SameLine (flush p tag r .row) (flush p tag q .row) v
@@ -304,54 +268,6 @@ module _ {W : ℕ} {R : Rule} (I : Isolates W R) (few : W ≤ 16) (p : Maps) (c 
         }))
         (λ t. rw t e))
 
--- ---- a change of policy
-
-without-bit : (gone : Bits) (map v : ℕ) → v < 16 → bit (without gone map) v ≡ cond (gone v) false (bit map v)
-unfolding without
-without-bit gone map v h = bit-word-in 16 (λ (w : ℕ). cond (gone w) false (bit map w)) v h
-
-module _ {W : ℕ} (R : Rule) (few : W ≤ 16) (old new : Maps) where
-  -- a way that moves comes out the same whatever was in it; another way stays
-  pub clean-gone : (r q : Row) (v : ℕ) → v < W → moved old new v ≡ true → SameLine (cleaned R old new r) (cleaned R old new q) v
-  unfolding cleaned
-  clean-gone r q v h t =
-      let low : v < 16 = lt-of-lt-of-le h few in
-      record {
-        valid = without-bit (moved old new) (r .valid) v low ∙ rw t (sym (without-bit (moved old new) (q .valid) v low ∙ rw t));
-        dirty = without-bit (moved old new) (r .dirty) v low ∙ rw t (sym (without-bit (moved old new) (q .dirty) v low ∙ rw t));
-        tag = wiped-at (moved old new) (r .tags) v ∙ rw t (sym (wiped-at (moved old new) (q .tags) v ∙ rw t));
-      }
-
-  pub clean-leaves : (r : Row) (v : ℕ) → v < W → moved old new v ≡ false → SameLine (cleaned R old new r) r v
-  unfolding cleaned
-  clean-leaves r v h t =
-      let low : v < 16 = lt-of-lt-of-le h few in
-      record {
-        valid = without-bit (moved old new) (r .valid) v low ∙ rw t;
-        dirty = without-bit (moved old new) (r .dirty) v low ∙ rw t;
-        tag = wiped-at (moved old new) (r .tags) v ∙ rw t;
-      }
-
-  pub clean-agrees : (r q : Row) (v : ℕ) → v < W → SameLine r q v → SameLine (cleaned R old new r) (cleaned R old new q) v
-  clean-agrees r q v h e =
-      cases (moved old new v)
-      (λ t. clean-gone r q v h t)
-      (λ t. line-trans (clean-leaves r v h t) (line-trans e (line-sym (clean-leaves q v h t))))
-
-  -- the drops go by the lines in the ways that move
-  module _ (r q : Row) (long-r : length (r .tags) ≡ W) (long-q : length (q .tags) ≡ W) (e : (v : ℕ) → v < W → moved old new v ≡ true → SameLine r q v) where
-    pub drops-same : dropped old new r ≡ dropped old new q
-    unfolding dropped
-    drops-same =
-        rw (long-r, long-q)
-        (count-ext W (λ w h. cases (moved old new w) (λ t. rw t (e w h t .valid)) (λ t. rw t)))
-
-    pub dirty-drops-same : droppedDirty old new r ≡ droppedDirty old new q
-    unfolding droppedDirty
-    dirty-drops-same =
-        rw (long-r, long-q)
-        (count-ext W (λ w h. cases (moved old new w) (λ t. rw t (ap₂ _&&_ (e w h t .valid) (e w h t .dirty))) (λ t. rw t)))
-
 -- ---- a row keeps its length
 
 pub access-long : (R : Rule) (p : Maps) (tag : ℕ) (store : Bool) (r : Row) → length (access R p tag store r .row .tags) ≡ length (r .tags)
@@ -365,28 +281,3 @@ access-long R p tag store r =
 pub flush-long : (p : Maps) (tag : ℕ) (r : Row) → length (flush p tag r .row .tags) ≡ length (r .tags)
 unfolding flush flushAt
 flush-long p tag r = cases (isHit r (p .hit) tag) (λ t. rw t) (λ t. rw t)
-
-pub clean-long : (R : Rule) (old new : Maps) (r : Row) → length (cleaned R old new r .tags) ≡ length (r .tags)
-unfolding cleaned
-clean-long R old new r = wiped-length (moved old new) (r .tags)
-
--- ---- a policy as read
-
-pub cut-read : (W : ℕ) (p : Maps) → Cut W (asRead W p)
-unfolding asRead
-cut-read W p = record { part = part; within = within }
-  where
-    hits : Bits
-    hits = λ w. bit (p .hit) w && ltb w W
-
-    fills : Bits
-    fills = λ w. bit (p .fill) w && (bit (p .hit) w && ltb w W)
-
-    part : (w : ℕ) → bit (word 16 fills) w ≡ true → bit (word 16 hits) w ≡ true
-    part w e =
-        let all : (ltb w 16 && fills w) ≡ true = sym (bit-word 16 fills w) ∙ e in
-        bit-word 16 hits w ∙ rw (and-left (ltb w 16) (fills w) all, and-right (bit (p .fill) w) (hits w) (and-right (ltb w 16) (fills w) all))
-
-    within : (w : ℕ) → bit (word 16 hits) w ≡ true → w < W
-    within w e =
-        ltb-true w W (and-right (bit (p .hit) w) (ltb w W) (and-right (ltb w 16) (hits w) (sym (bit-word 16 hits w) ∙ e)))

@@ -1,28 +1,33 @@
 -- The replacement calls within the limits give what the rule gives.
-use mathlib.Core.Path.{_≡_, refl, sym, ap, _∙_}
-use mathlib.Core.Bool.{Bool, true, false, not, _&&_}
-use mathlib.Core.List.{List, [], _∷_}
-use Prim.Native.Nat.{ℕ, suc, _^_, _≤_, _<_}
+use mathlib.Core.Path.{_≡_, ap}
+use mathlib.Core.Bool.{true}
+use mathlib.Core.List.{[], _∷_}
+use Prim.Native.Nat.{ℕ, _≤_, _<_}
 use native.Mathlib.Nat.{le-trans}
 use native.Mathlib.Omega.{arith}
-use lib.Dec.{ltb, lit≤}
+use lib.Dec.{lit≤}
 use borrow.Author.Tests.{lt-ltb}
-use Rattle.waymap.specs.Bits.{bit, any, reaches}
+use Rattle.waymap.specs.Bits.{bit, any}
 use Rattle.waymap.proofs.WayLaws.{any-at, any-found}
-use Rattle.replacement.specs.Rule.{Rule, ruleOf}
-use Rattle.replacement.specs.Isolates.{Isolates}
+use Rattle.replacement.specs.Rule.{ruleOf}
 use Rattle.replacement.specs.Calls.{Result, answerOf, result, inLimits, victimOf, touchOf}
 use Rattle.replacement.specs.declared.Reply.{Reply}
 use Rattle.replacement.specs.declared.Reply.the-variants.{Way, Done, OutsideLimits, OutOfReach, SharedNode}
 use Rattle.replacement.specs.declared.Outcome.{Outcome}
 use Rattle.replacement.proofs.CallLaws.{sized}
 use Rattle.replacement.proofs.RuleLaws.{isolates}
+use Rattle.policy.specs.Policy.{asRead}
+use Rattle.policy.specs.declared.Maps.{Maps}
+use Rattle.policy.proofs.ReadLaws.{fill-small, fill-within}
 use Rattle.row.specs.Inside.{Usable, ChoiceOf}
-use Rattle.row.specs.declared.rules.Choice.{Choice}
 
 -- the number of ways within the limits
 pub most-ways : (W rule : ℕ) → inLimits W rule ≡ true → W ≤ 16
 most-ways W rule e = sized W rule e .most
+
+-- a fill map as read
+pub fill-usable : (W rule : ℕ) (p : Maps) → inLimits W rule ≡ true → Usable W rule (asRead W p .fill)
+fill-usable W rule p e = record { limits = e; within = fill-within W p; small = fill-small W p }
 
 pub touch-gives : {W rule fill way : ℕ} (x : ℕ) (o : Outcome) → Usable W rule fill → way < W → result o ≡ touchOf W rule x fill way
     → o .word ≡ ruleOf rule W .touch fill way x

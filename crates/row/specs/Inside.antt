@@ -9,7 +9,6 @@ use Rattle.replacement.specs.Calls.{inLimits}
 use Rattle.row.specs.Row.{Row, Effect, ways, vacant, accessBy}
 use Rattle.row.specs.Calls.{rowOf}
 use Rattle.row.specs.declared.Lines.{Lines}
-use Rattle.row.specs.declared.Maps.{Maps}
 use Rattle.row.specs.declared.rules.Choice.{Choice}
 
 -- A number of ways and a rule within the limits, and a map within the ways.

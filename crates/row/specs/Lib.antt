@@ -3,5 +3,4 @@ pub mod Answer
 pub mod Row
 pub mod View
 pub mod Calls
-pub mod Sweep
 pub mod Inside

@@ -1,14 +1,14 @@
 -- The rules on one set: its tags, its valid and dirty map and its replacement word, and the maps of the domain that steps.
-use mathlib.Core.Bool.{Bool, true, false, cond, not, _&&_, xor}
-use mathlib.Core.List.{List, [], _∷_}
-use Prim.Native.Nat.{ℕ, suc}
-use lib.Dec.{eqb, ltb}
+use mathlib.Core.Bool.{Bool, true, false, cond, not, _&&_}
+use mathlib.Core.List.{List}
+use Prim.Native.Nat.{ℕ}
 use lib.ListN.{length, getD, set}
-use Rattle.waymap.specs.Bits.{Bits, bit, word, any, lowest, count, put}
-use Rattle.replacement.specs.Rule.{Rule, ruleOf}
-use Rattle.row.specs.declared.Maps.{Maps}
+use Rattle.waymap.specs.Bits.{Bits, bit, word, any, lowest, put}
+use Rattle.replacement.specs.Rule.{Rule}
+use Rattle.policy.specs.declared.Maps.{Maps}
+use Rattle.lookup.specs.Lookup as Lookup
 use Rattle.row.specs.declared.Answer.{Answer}
-use Rattle.row.specs.declared.Answer.the-variants.{Hit, Fill, Evict, Pass, Flush, Absent, Policy}
+use Rattle.row.specs.declared.Answer.the-variants.{Hit, Fill, Evict, Pass, Flush, Absent}
 
 -- One set's part of the tables: "the W tags of a set side by side; valid and dirty, one 16-bit map per set each; replacement, one 64-bit
 -- word per set".
@@ -26,25 +26,14 @@ pub record Effect : Type 0 where
 abbrev pub ways : Row → ℕ
 ways r = length (r .tags)
 
--- "A stored policy may hold anything. It is read with ways of W or more left out of both maps and the fill map cut to its hit map".
-unfoldable pub asRead : ℕ → Maps → Maps
-asRead W p = record {
-  hit = word 16 (λ w. bit (p .hit) w && ltb w W);
-  fill = word 16 (λ w. bit (p .fill) w && (bit (p .hit) w && ltb w W));
-}
-
 -- ---- Hit lookup
 
--- A way of the hit map "that is valid with an equal tag".
-unfoldable pub matches : Row → ℕ → ℕ → Bits
-matches r hit tag w = bit hit w && bit (r .valid) w && eqb (getD (r .tags) w 0) tag
+-- "It hits the lowest way of the domain's hit map that is valid with an equal tag".
+abbrev pub isHit : Row → ℕ → ℕ → Bool
+isHit r hit tag = Lookup.isHit (r .tags) (r .valid) hit tag
 
--- "It hits the lowest way" of those, where there is one.
-unfoldable pub isHit : Row → ℕ → ℕ → Bool
-isHit r hit tag = any (ways r) (matches r hit tag)
-
-unfoldable pub hitWay : Row → ℕ → ℕ → ℕ
-hitWay r hit tag = lowest (ways r) (matches r hit tag)
+abbrev pub hitWay : Row → ℕ → ℕ → ℕ
+hitWay r hit tag = Lookup.hitWay (r .tags) (r .valid) hit tag
 
 -- ---- Access
 
@@ -106,36 +95,3 @@ flushAt false w r = record { answer = Absent; row = r }
 
 unfoldable pub flush : Maps → ℕ → Row → Effect
 flush p tag r = flushAt (isHit r (p .hit) tag) (hitWay r (p .hit) tag) r
-
--- ---- A change of policy
-
--- "Ways in exactly one of the old and new hit maps".
-unfoldable pub moved : Maps → Maps → Bits
-moved old new w = xor (bit (old .hit) w) (bit (new .hit) w)
-
--- They "are cleaned in every set: invalid, not dirty, tag zero": a map without them, and the tags with theirs zero.
-unfoldable pub without : Bits → ℕ → ℕ
-without gone map = word 16 (λ w. cond (gone w) false (bit map w))
-
-unfoldable pub wiped : Bits → List ℕ → List ℕ
-wiped gone [] = []
-wiped gone (t ∷ ts) = cond (gone 0) 0 t ∷ wiped (λ w. gone (suc w)) ts
-
--- "the number of valid lines dropped and how many of them were dirty"
-unfoldable pub dropped : Maps → Maps → Row → ℕ
-dropped old new r = count (ways r) (λ w. moved old new w && bit (r .valid) w)
-
-unfoldable pub droppedDirty : Maps → Maps → Row → ℕ
-droppedDirty old new r = count (ways r) (λ w. moved old new w && bit (r .valid) w && bit (r .dirty) w)
-
--- The set after a change of policy; the rule says what becomes of the replacement bits.
-unfoldable pub cleaned : Rule → Maps → Maps → Row → Row
-cleaned R old new r = record {
-  tags = wiped (moved old new) (r .tags);
-  valid = without (moved old new) (r .valid);
-  dirty = without (moved old new) (r .dirty);
-  word = R .reset (old .fill) (new .fill) (r .word);
-}
-
-unfoldable pub clean : Rule → Maps → Maps → Row → Effect
-clean R old new r = record { answer = Policy (dropped old new r) (droppedDirty old new r); row = cleaned R old new r }

@@ -7,7 +7,7 @@ use Rattle.waymap.specs.Bits.{bit}
 use Rattle.replacement.specs.Rule.{Rule}
 use Rattle.replacement.specs.Isolates.{SameOwn}
 use Rattle.row.specs.Row.{Row}
-use Rattle.row.specs.declared.Maps.{Maps}
+use Rattle.policy.specs.declared.Maps.{Maps}
 
 -- Two rows have the same "valid bit, dirty bit and tag" at a way.
 pub record SameLine (r q : Row) (w : ℕ) : Type 0 where

@@ -4,7 +4,7 @@ ghost use mathlib.Core.Path.{_≡_};
 ghost use mathlib.Core.Bool.{true};
 ghost use Prim.Native.Nat.{_<_};
 ghost use Rattle.waymap.specs.Bits.{bit, any};
-ghost use Rattle.replacement.specs.Rule.{Rule, ruleOf};
+ghost use Rattle.replacement.specs.Rule.{ruleOf};
 ghost use Rattle.row.specs.Inside.{Usable, ChoiceOf};
 
 // A victim, and the word before its touch.

@@ -1,14 +1,11 @@
 // What a set has beside its tags: valid map, dirty map and replacement word.
-use crate::Answer;
 use crate::Lines;
 use crate::rules;
-use replacement::Change;
 ghost use mathlib.Core.Path.{_≡_};
 ghost use mathlib.Core.Bool.{true};
 ghost use Prim.Native.Nat.{_<_};
 ghost use Rattle.replacement.specs.Rule.{ruleOf};
 ghost use Rattle.row.specs.Row.{hitAt, filled as filledRow, flushAt};
-ghost use Rattle.row.specs.Sweep.{drops, sweptLines};
 ghost use Rattle.row.specs.Inside.{Usable, untagged, linesOf};
 
 // After a hit: the way is touched, and a store marks it dirty.
@@ -58,27 +55,5 @@ pub fn flushed(lines: Lines, way: usize) -> Lines
         valid: waymap::set_way(lines.valid, way, false),
         dirty: waymap::set_way(lines.dirty, way, false),
         word: lines.word,
-    }
-}
-
-// The valid lines in the map, and how many of them are dirty.
-pub fn dropped(lines: Lines, gone: u16) -> Answer
-    ensures { λ r. ⌜ r ≡ drops gone lines ⌝ }
-{
-    let valid = gone & lines.valid;
-    Answer::Policy {
-        dropped: waymap::count_ways(valid),
-        dirty: waymap::count_ways(valid & lines.dirty),
-    }
-}
-
-// After a change of policy: the map's ways are invalid and not dirty, and the replacement word is changed.
-pub fn swept(lines: Lines, gone: u16, change: Change) -> Lines
-    ensures { λ r. ⌜ r ≡ sweptLines gone change lines ⌝ }
-{
-    Lines {
-        valid: lines.valid & !gone,
-        dirty: lines.dirty & !gone,
-        word: replacement::changed(change, lines.word),
     }
 }

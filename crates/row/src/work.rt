@@ -2,10 +2,9 @@
 use crate::Answer;
 use crate::Done;
 use crate::Lines;
-use crate::Maps;
 use crate::rules;
-use crate::tags;
 use crate::update;
+use policy::Maps;
 ghost use mathlib.Core.Path.{_≡_};
 ghost use mathlib.Core.Bool.{true};
 ghost use lib.ListN.{length};
@@ -62,7 +61,7 @@ pub fn serve(tags: &mut [u64], lines: Lines, rule: usize, maps: Maps, tag: u64, 
 {
     let ways = tags.len();
     let fill = maps.fill;
-    let way = tags::hit_way(tags, lines.valid, maps.hit, tag);
+    let way = lookup::hit_way(tags, lines.valid, maps.hit, tag);
     if way < ways {
         return Done {
             answer: Answer::Hit(way),
@@ -82,7 +81,7 @@ pub fn serve(tags: &mut [u64], lines: Lines, rule: usize, maps: Maps, tag: u64, 
 pub fn drop_line(tags: &[u64], lines: Lines, maps: Maps, tag: u64) -> Done
     ensures { λ r. ⌜ result r (now (tags .entry)) ≡ flush maps tag (rowOf (now (tags .entry)) lines) ⌝ }
 {
-    let way = tags::hit_way(tags, lines.valid, maps.hit, tag);
+    let way = lookup::hit_way(tags, lines.valid, maps.hit, tag);
     if way < tags.len() {
         let dirty = waymap::has(lines.dirty, way);
         return Done {

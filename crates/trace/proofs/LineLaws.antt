@@ -10,8 +10,8 @@ use borrow.Author.Tests.{eq-eqb, ne-eqb}
 use denote.Enum.Declared.{tagOf}
 use Rattle.row.proofs.Answer.{the-type}
 use Rattle.row.specs.Answer.{answerOf}
-use Rattle.row.specs.Row.{asRead}
-use Rattle.row.specs.declared.Maps.{Maps}
+use Rattle.policy.specs.Policy.{asRead}
+use Rattle.policy.specs.declared.Maps.{Maps}
 use Rattle.row.specs.declared.Answer.{Answer}
 use Rattle.row.specs.declared.Answer.the-variants.{Hit, Fill, Evict, Pass, Flush, Absent, Policy, Refused}
 use Rattle.verdict.specs.Domains.{domainOf}

@@ -10,10 +10,10 @@ use lib.Seq.{sets, sets-eq, length-take-le}
 use borrow.Author.Tests.{eq-eqb, ne-eqb}
 use borrow.Rule.Slice.PartMut.{postOf, post-is}
 use Rattle.io.specs.Counts.{Counts}
-use Rattle.verdict.specs.Geometry.{within, Lengths, sized}
-use Rattle.verdict.specs.Inside.{Limited}
-use Rattle.verdict.specs.declared.Geometry.{Geometry}
-use Rattle.verdict.proofs.GeometryLaws.{limited, rows-bound}
+use Rattle.geometry.specs.Geometry.{within, Lengths, sized}
+use Rattle.geometry.specs.Inside.{Limited}
+use Rattle.geometry.specs.declared.Geometry.{Geometry}
+use Rattle.geometry.proofs.GeometryLaws.{limited, rows-bound}
 use Rattle.cache.specs.Tables.{Tables, lengths}
 use Rattle.cache.specs.Step.{State, tablesOf}
 use Rattle.cache.specs.Run.{finally}

@@ -5,10 +5,10 @@ use mathlib.Core.List.{List, [], _∷_, _++_}
 use Prim.Native.Nat.{ℕ, zero, suc, _+_, _-_, _*_, _≤_, _<_}
 use native.Mathlib.Omega.{arith}
 use lib.ListN.{length}
-use Rattle.verdict.specs.Geometry.{within, Lengths, sized}
+use Rattle.geometry.specs.Geometry.{within, Lengths, sized}
 use Rattle.verdict.specs.Domains.{maxDomains}
 use Rattle.verdict.specs.declared.Domains.{Domains}
-use Rattle.verdict.specs.declared.Geometry.{Geometry}
+use Rattle.geometry.specs.declared.Geometry.{Geometry}
 use Rattle.command.specs.Command.{Command}
 use Rattle.cache.specs.Run.{stepOn, answersOf, finally}
 use Rattle.cache.specs.Step.{State, Outcome}

@@ -6,7 +6,7 @@ use Prim.Native.Nat.{ℕ, _+_, _≤_}
 use lib.Dec.{ltb}
 use lib.ListN.{length, take}
 use lib.Seq.{sets}
-use Rattle.verdict.specs.declared.Geometry.{Geometry}
+use Rattle.geometry.specs.declared.Geometry.{Geometry}
 use Rattle.verdict.specs.declared.Domains.{Domains}
 use Rattle.cache.specs.Run.{answersOf, finally}
 use Rattle.fresh.specs.Fresh.{fresh}

@@ -3,15 +3,15 @@ mod lines;
 mod text;
 
 use cache::Stepped;
+use geometry::Geometry;
 use row::Answer;
 use verdict::Domains;
-use verdict::Geometry;
 ghost use mathlib.Core.Path.{_≡_};
 ghost use mathlib.Core.Bool.{true};
 ghost use Prim.Native.Nat.{_+_, _*_, _≤_};
 ghost use lib.ListN.{length};
 ghost use Rattle.io.specs.Counts.{Counts};
-ghost use Rattle.verdict.specs.Geometry.{within, sized};
+ghost use Rattle.geometry.specs.Geometry.{within, sized};
 ghost use Rattle.cache.specs.Step.{tablesOf};
 ghost use Rattle.cache.specs.Tables.{lengths};
 ghost use Rattle.tracefile.specs.File.{fileRefusal};

@@ -1,11 +1,11 @@
 // The lines of a listing.
 use crate::text;
+use geometry::Geometry;
+use policy::Maps;
 use row::Answer;
-use row::Maps;
 use verdict::Counts;
 use verdict::Domain;
 use verdict::Domains;
-use verdict::Geometry;
 ghost use mathlib.Core.Path.{_≡_};
 ghost use mathlib.Core.List.{[], _∷_, map};
 ghost use Prim.Native.Nat.{_+_, _*_, _≤_, _<_};
@@ -111,7 +111,7 @@ fn part(ways: usize, number: usize, own: Domain, out: &mut [u8], at: usize) -> u
         hit: own.hit,
         fill: own.fill,
     };
-    let read = row::as_read(ways, stored);
+    let read = policy::as_read(ways, stored);
     if read.hit == 0 {
         return at;
     }

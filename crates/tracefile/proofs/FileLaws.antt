@@ -10,8 +10,8 @@ use lib.ListN.{length, take, drop, getD, List·getD-eq-default}
 use lib.Seq.{take-nil, drop-nil}
 use borrow.Author.Tests.{ltb-false, eqb-true, lt-ltb, le-ltb, eq-eqb, ne-eqb}
 use Rattle.waymap.proofs.Booleans.{cases}
-use Rattle.verdict.specs.Geometry.{within}
-use Rattle.verdict.specs.declared.Geometry.{Geometry}
+use Rattle.geometry.specs.Geometry.{within}
+use Rattle.geometry.specs.declared.Geometry.{Geometry}
 use Rattle.tracefile.specs.File.{value, field, geometryOf, stepCount, maxSteps, badFile, fileRefusal}
 
 -- ---- a field

@@ -1,6 +1,6 @@
 // What a trace file says, for bytes of any content and number.
 use command::Command;
-use verdict::Geometry;
+use geometry::Geometry;
 ghost use mathlib.Core.Path.{_≡_};
 ghost use Prim.Native.Nat.{_+_, _*_, _^_, _≤_, _<_};
 ghost use lib.ListN.{length, getD};
@@ -118,7 +118,7 @@ pub fn refusal(file: &[u8]) -> usize
     if MAX_STEPS < n {
         return 10;
     }
-    if verdict::within(geometry(file)) {
+    if geometry::within(geometry(file)) {
         return 0;
     }
     1

@@ -1,4 +1,3 @@
 -- The laws that the crates above cite.
-pub mod GeometryLaws
 pub mod RefusalLaws
 pub mod PolicyLaws

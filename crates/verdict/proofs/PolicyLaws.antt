@@ -1,7 +1,7 @@
 -- The policies of all domains, without their counts.
 use mathlib.Core.Path.{_≡_, refl, sym, ap, _∙_}
-use mathlib.Core.Bool.{Bool, true, false, cond, not, _&&_}
-use mathlib.Core.List.{List, [], _∷_}
+use mathlib.Core.Bool.{cond, not, _&&_}
+use mathlib.Core.List.{List}
 use Prim.Native.Nat.{ℕ, zero, suc, _+_, _≤_, _<_}
 use native.Mathlib.Nat.{zero-add}
 use native.Mathlib.Omega.{arith}
@@ -12,13 +12,13 @@ use borrow.Author.Tests.{eqb-true, eqb-false}
 use Rattle.waymap.specs.Bits.{bit, any}
 use Rattle.waymap.proofs.Booleans.{cases}
 use Rattle.waymap.proofs.WayLaws.{any-ext}
-use Rattle.replacement.specs.Rule.{Rule, ruleOf}
-use Rattle.row.specs.Row.{asRead}
-use Rattle.row.specs.declared.Maps.{Maps}
+use Rattle.replacement.specs.Rule.{ruleOf}
+use Rattle.policy.specs.Policy.{asRead, newMaps, badArgument}
+use Rattle.policy.specs.declared.Maps.{Maps}
 use Rattle.verdict.specs.Domains.{noDomain, domainOf, mapsOf, policies}
-use Rattle.verdict.specs.Refusal.{newMaps, badArgument, sharesWay, sharesNode, policyRefusal}
-use Rattle.verdict.specs.Calls.{mapsFrom, policiesOf, readBy, policyRefusalOf}
-use Rattle.verdict.specs.declared.Geometry.{Geometry}
+use Rattle.verdict.specs.Refusal.{sharesWay, sharesNode, policyRefusal}
+use Rattle.verdict.specs.Calls.{mapsFrom, policiesOf, readBy}
+use Rattle.geometry.specs.declared.Geometry.{Geometry}
 use Rattle.verdict.specs.declared.Domains.{Domains}
 
 from-long : (ds : Domains) (d n : ℕ) → length (mapsFrom ds d n) ≡ n

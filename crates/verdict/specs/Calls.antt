@@ -1,31 +1,16 @@
 -- What the calls give.
-use mathlib.Core.Bool.{true, false, cond, not}
+use mathlib.Core.Bool.{cond}
 use mathlib.Core.List.{List, [], _∷_}
 use Prim.Native.Nat.{ℕ, zero, suc}
 use lib.ListN.{getD}
 use Rattle.replacement.specs.Calls.{inLimits}
-use Rattle.row.specs.Row.{asRead}
-use Rattle.row.specs.declared.Maps.{Maps}
-use Rattle.verdict.specs.Geometry.{within, Lengths, sized}
+use Rattle.policy.specs.Policy.{asRead}
+use Rattle.policy.specs.declared.Maps.{Maps}
 use Rattle.verdict.specs.Domains.{maxDomains, noDomain, domainOf, mapsOf}
-use Rattle.verdict.specs.Refusal.{Kind, access, flush, policy, unknown, policyRefusal}
-use Rattle.verdict.specs.declared.Geometry.{Geometry}
+use Rattle.verdict.specs.Refusal.{policyRefusal}
+use Rattle.geometry.specs.declared.Geometry.{Geometry}
 use Rattle.verdict.specs.declared.Domains.{Domains}
 use Rattle.verdict.specs.declared.Policies.{Policies}
-use Rattle.verdict.specs.declared.Asked.{Asked}
-use Rattle.verdict.specs.declared.Asked.the-variants as AskedIs
-
--- Of the geometry and the tables' lengths alone: "1: geometry outside the limits", "2: a table whose length is not exactly the one
--- above", 0 for neither.
-unfoldable pub sizesOf : Geometry → Lengths → ℕ
-sizesOf g n = cond (not (within g)) 1 (cond (not (sized g n)) 2 0)
-
--- What the code's kinds are among document 01's.
-abbrev pub kindIs : Asked → Kind
-kindIs (AskedIs.Line true store) = flush
-kindIs (AskedIs.Line false store) = access store
-kindIs AskedIs.Policy = policy
-kindIs AskedIs.Unknown = unknown
 
 -- The maps of the n domains from d on.
 unfoldable pub mapsFrom : Domains → ℕ → ℕ → List Maps

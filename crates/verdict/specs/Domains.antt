@@ -3,8 +3,8 @@ use mathlib.Core.Bool.{Bool, _||_}
 use Prim.Native.Nat.{ℕ}
 use lib.Dec.{eqb}
 use lib.ListN.{getD}
-use Rattle.row.specs.Row.{asRead}
-use Rattle.row.specs.declared.Maps.{Maps}
+use Rattle.policy.specs.Policy.{asRead}
+use Rattle.policy.specs.declared.Maps.{Maps}
 use Rattle.verdict.specs.declared.Counts.{Counts}
 use Rattle.verdict.specs.declared.Domain.{Domain}
 use Rattle.verdict.specs.declared.Domains.{Domains}

@@ -1,6 +1,4 @@
 -- Document 01, "When a step is turned down", and what it goes by: the limits, the tables' lengths, the policies and the counts.
-pub mod Geometry
 pub mod Domains
 pub mod Refusal
 pub mod Calls
-pub mod Inside

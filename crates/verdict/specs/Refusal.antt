@@ -1,36 +1,17 @@
 -- Document 01, "When a step is turned down". A verdict reads the geometry, the tables' lengths, the step, the policies and the counts of
 -- the domain that the step names; it sees no table, and no other domain's counts.
-use mathlib.Core.Bool.{Bool, true, false, cond, not, _&&_, _||_}
-use Prim.Native.Nat.{ℕ, _/_, _%_}
-use lib.Dec.{eqb, leb, ltb}
-use Rattle.waymap.specs.Bits.{bit, any, reaches}
+use mathlib.Core.Bool.{Bool, cond, not, _&&_}
+use Prim.Native.Nat.{ℕ}
+use lib.Dec.{eqb, leb}
+use Rattle.waymap.specs.Bits.{bit, any}
 use Rattle.replacement.specs.Rule.{Rule, ruleOf}
-use Rattle.row.specs.declared.Maps.{Maps}
-use Rattle.verdict.specs.Geometry.{within, Lengths, sized}
+use Rattle.command.specs.Kind.{Kind, access, flush, policy, unknown, kindOf}
+use Rattle.policy.specs.Policy.{newMaps, badArgument}
+use Rattle.policy.specs.declared.Maps.{Maps}
+use Rattle.geometry.specs.Geometry.{within, Lengths, sized}
 use Rattle.verdict.specs.Domains.{maxDomains, isFull}
-use Rattle.verdict.specs.declared.Geometry.{Geometry}
+use Rattle.geometry.specs.declared.Geometry.{Geometry}
 use Rattle.verdict.specs.declared.Counts.{Counts}
-
--- "Kinds: 0 instruction fetch, 1 load, 2 store, 3 flush, 16 policy. Kinds 4 to 15 and 17 to 255 are unknown." An access is told to store
--- or not.
-pub data Kind : Type 0 where
-  access : Bool → Kind
-  flush : Kind
-  policy : Kind
-  unknown : Kind
-
-unfoldable pub kindOf : ℕ → Kind
-kindOf k = cond (ltb k 3) (access (eqb k 2)) (cond (eqb k 3) flush (cond (eqb k 16) policy unknown))
-
--- "The argument holds the hit map (low 16 bits), the fill map (next 16) and zeros".
-unfoldable pub newMaps : ℕ → Maps
-newMaps arg = record { hit = arg % 65536; fill = arg / 65536 % 65536 }
-
--- "5: policy argument with a way W or higher, a fill map that is not part of the hit map, or a high bit set."
-unfoldable pub badArgument : ℕ → ℕ → Bool
-badArgument W arg =
-    reaches W (newMaps arg .hit) || any 16 (λ w. bit (newMaps arg .fill) w && not (bit (newMaps arg .hit) w))
-    || not (eqb (arg / 4294967296) 0)
 
 -- "8: policy whose hit map shares a way with another domain's."
 unfoldable pub sharesWay : (ℕ → Maps) → ℕ → Maps → Bool

@@ -1,21 +1,11 @@
 // Why a step is turned down.
-mod limits;
 mod reasons;
 
-pub use limits::within;
+use geometry::Geometry;
+use policy::Maps;
 pub use reasons::line_refusal;
-pub use reasons::new_maps;
-use row::Maps;
 ghost use mathlib.Core.Path.{_≡_};
-ghost use Rattle.verdict.specs.Refusal.{kindOf};
-ghost use Rattle.verdict.specs.Calls.{sizesOf, kindIs, policiesOf, policyRefusalOf};
-
-// The numbers of sets and ways, and the replacement rule.
-pub struct Geometry {
-    pub sets: usize,
-    pub ways: usize,
-    pub rule: usize,
-}
+ghost use Rattle.verdict.specs.Calls.{policiesOf, policyRefusalOf};
 
 // A domain's counts.
 pub struct Counts {
@@ -41,47 +31,6 @@ pub struct Domains {
 // The maps of all domains, as stored.
 pub struct Policies {
     pub maps: [Maps; 16],
-}
-
-// What a kind number asks for.
-pub enum Asked {
-    Line { flush: bool, store: bool },
-    Policy,
-    Unknown,
-}
-
-pub fn kind_of(kind: u8) -> Asked
-    ensures { λ r. ⌜ kindIs r ≡ kindOf kind ⌝ }
-{
-    match kind {
-        0..=1 => Asked::Line {
-            flush: false,
-            store: false,
-        },
-        2 => Asked::Line {
-            flush: false,
-            store: true,
-        },
-        3 => Asked::Line {
-            flush: true,
-            store: false,
-        },
-        16 => Asked::Policy,
-        4..=15 | 17..=255 => Asked::Unknown,
-    }
-}
-
-// Numbers 1 and 2; 0 for neither.
-pub fn sizes(g: Geometry, tags: usize, valid: usize, dirty: usize, words: usize) -> usize
-    ensures { λ r. ⌜ r ≡ sizesOf g (record { tags = tags; valid = valid; dirty = dirty; words = words }) ⌝ }
-{
-    if limits::within(g) {} else {
-        return 1;
-    }
-    if limits::sized(g, tags, valid, dirty, words) {} else {
-        return 2;
-    }
-    0
 }
 
 // The policies of all domains, without their counts.

@@ -1,53 +1,29 @@
 // What numbers 5 to 9 look at.
 use crate::Counts;
-use crate::Geometry;
 use crate::Policies;
+use geometry::Geometry;
+use policy::Maps;
 use replacement::Reply;
-use row::Maps;
 ghost use mathlib.Core.Path.{_≡_};
-ghost use mathlib.Core.Bool.{Bool, true, false, not, _&&_};
+ghost use mathlib.Core.Bool.{true, false, not, _&&_};
 ghost use Prim.Native.Nat.{ℕ, _<_};
 ghost use lib.Dec.{eqb};
 ghost use Rattle.waymap.specs.Bits.{bit, any, reaches};
-ghost use Rattle.replacement.specs.Rule.{Rule, ruleOf};
+ghost use Rattle.replacement.specs.Rule.{ruleOf};
 ghost use Rattle.replacement.specs.Calls.{inLimits};
-ghost use Rattle.row.specs.Row.{asRead};
+ghost use Rattle.policy.specs.Policy.{asRead};
 ghost use Rattle.verdict.specs.Domains.{isFull};
-ghost use Rattle.verdict.specs.Refusal.{newMaps, badArgument, sharesWay, sharesNode, useRefusal, policyRefusal};
+ghost use Rattle.verdict.specs.Refusal.{sharesWay, sharesNode, useRefusal, policyRefusal};
 ghost use Rattle.verdict.specs.Calls.{readBy};
 
 const LARGEST: u32 = 4_294_967_295;
 
 // A domain's policy as read.
-fn policy(ways: usize, policies: Policies, d: usize) -> Maps
+fn read_by(ways: usize, policies: Policies, d: usize) -> Maps
     requires { ⌜ d < 16 ⌝ }
     ensures { λ r. ⌜ r ≡ readBy ways policies d ⌝ }
 {
-    row::as_read(ways, policies.maps[d])
-}
-
-// The maps of a policy argument.
-pub fn new_maps(argument: u64) -> Maps
-    ensures { λ r. ⌜ r ≡ newMaps argument ⌝ }
-{
-    Maps {
-        hit: (argument % 65536) as u16,
-        fill: (argument / 65536 % 65536) as u16,
-    }
-}
-
-// Number 5.
-fn bad_argument(ways: usize, argument: u64) -> bool
-    ensures { λ r. ⌜ r ≡ badArgument ways argument ⌝ }
-{
-    let new = new_maps(argument);
-    if waymap::fits(new.hit, ways) {} else {
-        return true;
-    }
-    if new.fill & !new.hit != 0 {
-        return true;
-    }
-    argument / 4294967296 != 0
+    policy::as_read(ways, policies.maps[d])
 }
 
 // Whether a count has reached the largest number.
@@ -73,7 +49,7 @@ fn is_full(c: Counts) -> bool
 pub fn line_refusal(ways: usize, stored: Maps, counts: Counts) -> usize
     ensures { λ r. ⌜ r ≡ useRefusal (asRead ways stored) counts ⌝ }
 {
-    let read = row::as_read(ways, stored);
+    let read = policy::as_read(ways, stored);
     if read.hit == 0 {
         return 6;
     }
@@ -92,7 +68,7 @@ fn has_way(ways: usize, policies: Policies, d: usize, hit: u16, e: usize) -> boo
     if d == e {
         return false;
     }
-    let other = policy(ways, policies, e);
+    let other = read_by(ways, policies, e);
     hit & other.hit != 0
 }
 
@@ -122,7 +98,7 @@ fn has_node(g: Geometry, policies: Policies, d: usize, fill: u16, e: usize) -> b
     if d == e {
         return false;
     }
-    let other = policy(g.ways, policies, e);
+    let other = read_by(g.ways, policies, e);
     let reply = replacement::conflict(g.ways, g.rule, fill, other.fill);
     match reply {
         Reply::SharedNode => true,
@@ -152,10 +128,10 @@ pub fn change_refusal(g: Geometry, policies: Policies, d: usize, argument: u64) 
     requires { ⌜ inLimits (g .ways) (g .rule) ≡ true ⌝ }
     ensures { λ r. ⌜ r ≡ policyRefusal g (readBy (g .ways) policies) d argument ⌝ }
 {
-    if bad_argument(g.ways, argument) {
+    if policy::bad_argument(g.ways, argument) {
         return 5;
     }
-    let new = new_maps(argument);
+    let new = policy::new_maps(argument);
     if shares_way(g.ways, policies, d, new) {
         return 8;
     }

@@ -157,6 +157,15 @@ passed-found {p} {n} {way} l h e = any-at n p way h e
 pub passed-all : {p : Bits} {n way : ℕ} → Passed p n way → n ≤ way → any n p ≡ false
 passed-all {p} {n} {way} l h = any-none n (λ i k. l .none i (lt-of-lt-of-le k h))
 
+-- and the way that it ends at is the lowest that passes
+pub passed-here : {p : Bits} {n way : ℕ} {b : Bool} → Passed p n way → way < n → b ≡ p way → b ≡ true → way ≡ lowest n p
+passed-here {p} {n} {way} l h e t = sym (lowest-is n p way h (l .none) (sym e ∙ t))
+
+pub passed-end : {p : Bits} {n way : ℕ} → Passed p n way → n ≤ way → way ≡ lowest n p
+passed-end {p} {n} {way} l h =
+    let all : way ≡ n = omega (arith, l .within) in
+    all ∙ sym (lowest-none n p (λ k m. l .none k (lt-of-lt-of-le m h)))
+
 -- ---- how many ways
 
 pub count-ext : (n : ℕ) {p q : Bits} → ((i : ℕ) → i < n → p i ≡ q i) → count n p ≡ count n q

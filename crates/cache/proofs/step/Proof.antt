@@ -1,7 +1,8 @@
 -- `cache::step` meets its contract.
 use native.Mathlib.Omega.{arith}
 use Rattle.verdict.specs.Domains.{domainOf, policies}
-use Rattle.verdict.proofs.RefusalLaws.{sizes-passed, by-sizes, by-domain}
+use Rattle.geometry.proofs.GeometryLaws.{sizes-passed}
+use Rattle.verdict.proofs.RefusalLaws.{by-sizes, by-domain}
 use Rattle.cache.specs.Tables.{Tables, lengths}
 use Rattle.cache.specs.Step.{tablesOf}
 use Rattle.cache.specs.Inside.{Shaped}

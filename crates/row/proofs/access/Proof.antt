@@ -1,11 +1,9 @@
 -- `row::access` meets its contract.
 use borrow.Author.Needs.{needs}
-use mathlib.Core.Path.{_≡_, sym, ap, _∙_}
+use mathlib.Core.Path.{sym, _∙_}
 use lib.ListN.{length}
 use Rattle.row.specs.Calls.{accessOf}
-use Rattle.row.proofs.ReadLaws.{fill-usable}
-use Rattle.row.specs.Inside.{Usable}
-use Rattle.row.specs.declared.Maps.{Maps}
+use Rattle.row.proofs.RuleLaws.{fill-usable}
 use Rattle.row.proofs.access.Statement.{statement}
 use Rattle.row.proofs.access.Tie as tie
 

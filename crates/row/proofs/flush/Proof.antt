@@ -1,7 +1,6 @@
 -- `row::flush` meets its contract.
 use borrow.Author.Needs.{needs}
-use mathlib.Core.Path.{_≡_, sym, ap, _∙_}
-use lib.ListN.{length}
+use mathlib.Core.Path.{sym, _∙_}
 use Rattle.row.specs.Calls.{flushOf}
 use Rattle.row.proofs.flush.Statement.{statement}
 use Rattle.row.proofs.flush.Tie as tie

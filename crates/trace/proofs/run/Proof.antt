@@ -3,7 +3,7 @@ use mathlib.Core.Path.{ap}
 use Prim.Native.Nat.{_-_}
 use borrow.Author.Count.{falls}
 use borrow.Author.Needs.{needs}
-use Rattle.verdict.specs.Geometry.{Lengths}
+use Rattle.geometry.specs.Geometry.{Lengths}
 use Rattle.cache.specs.Step.{tablesOf, outcome}
 use Rattle.command.specs.Command.{commandIs}
 use Rattle.tracefile.proofs.PlaceLaws.{place-fits, next-fits}

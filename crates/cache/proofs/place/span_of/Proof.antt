@@ -1,6 +1,6 @@
 -- `cache::place::span_of` meets its contract.
 use native.Mathlib.Omega.{arith}
-use Rattle.verdict.proofs.GeometryLaws.{rows-bound}
+use Rattle.geometry.proofs.GeometryLaws.{rows-bound}
 use Rattle.cache.proofs.PlaceLaws.{row-within, span-is}
 use Rattle.cache.proofs.place.span_of.Statement.{statement}
 use Rattle.cache.proofs.place.span_of.Tie as tie

@@ -1,5 +1,5 @@
 -- `cache::sets::sweep_set` meets its contract.
-use Rattle.row.specs.Sweep.{sweepBy}
+use Rattle.sweep.specs.Sweep.{sweepBy}
 use Rattle.cache.specs.Tables.{Tables}
 use Rattle.cache.specs.Step.{tablesOf}
 use Rattle.cache.proofs.SetLaws.{row-done}

@@ -1,8 +1,5 @@
 -- `row::update::hit` meets its contract.
 use borrow.Author.Needs.{needs}
-use mathlib.Core.Path.{_≡_, sym, ap, _∙_}
-use mathlib.Core.Bool.{Bool, cond}
-use Rattle.waymap.specs.Bits.{put}
 use Rattle.row.specs.Row.{hitAt}
 use Rattle.row.proofs.update.hit.Statement.{statement}
 use Rattle.row.proofs.update.hit.Tie as tie

@@ -1,8 +1,6 @@
 -- `row::work::serve` meets its contract.
 use borrow.Author.Needs.{needs}
-use mathlib.Core.Path.{_≡_, sym, ap, _∙_}
 use lib.ListN.{length}
-use Rattle.row.specs.Row.{hitWay, matches}
 use Rattle.row.proofs.WorkLaws.{serve-hit, serve-pass, serve-miss, some-fill, no-fill}
 use Rattle.row.proofs.work.serve.Statement.{statement}
 use Rattle.row.proofs.work.serve.Tie as tie
@@ -17,7 +15,6 @@ same-length : tie.Need-same-length
 same-length c = search needs
 
 returns : tie.Need-returns
-unfolding hitWay matches
 returns c =
     let a = c .before .before .before .before .before .args in
     serve-hit (a .rule) (a .tag) (a .store) (a .tags .now) (a .lines) (a .maps) (c .before .before .hit-way .ensures) (c .before .if1 .taken) (c .hit .ensures)
@@ -26,7 +23,6 @@ same-length-2 : tie.Need-same-length-2
 same-length-2 c = search needs
 
 returns-2 : tie.Need-returns-2
-unfolding hitWay matches
 returns-2 c =
     let a = c .before .before .before .before .before .args in
     serve-pass (a .rule) (a .tag) (a .store) (a .tags .now) (a .lines) (a .maps) (c .before .before .hit-way .ensures) (c .before .if1 .left)
@@ -44,7 +40,6 @@ same-length-3 : tie.Need-same-length-3
 same-length-3 c = search needs
 
 returns-3 : tie.Need-returns-3
-unfolding hitWay matches
 returns-3 c =
     let a = c .before .before .before .before .before .before .before .before .before .args in
     serve-miss (a .rule) (a .tag) (a .store) (a .tags .now) (a .lines) (a .maps) (c .before .before .before .before .before .before .hit-way .ensures)

@@ -1,10 +1,10 @@
 -- `verdict::reasons::change_refusal` meets its contract.
 use borrow.Author.Needs.{needs}
-use mathlib.Core.Path.{sym, ap, _∙_}
-use native.Mathlib.Nat.{mod-lt}
+use mathlib.Core.Path.{sym, _∙_}
 use native.Mathlib.Omega.{arith}
-use Rattle.verdict.specs.Refusal.{policyRefusal, newMaps}
-use Rattle.verdict.proofs.RefusalLaws.{good-fill}
+use Rattle.verdict.specs.Refusal.{policyRefusal}
+use Rattle.policy.specs.Policy.{newMaps}
+use Rattle.policy.proofs.ArgumentLaws.{good-fill}
 use Rattle.verdict.proofs.reasons.change_refusal.Statement.{statement}
 use Rattle.verdict.proofs.reasons.change_refusal.Tie as tie
 

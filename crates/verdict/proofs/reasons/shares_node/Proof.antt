@@ -1,10 +1,10 @@
 -- `verdict::reasons::shares_node` meets its contract. The invariant: no domain before shares one.
 use mathlib.Core.Path.{sym, _∙_}
-use mathlib.Core.Bool.{Bool, not, _&&_}
+use mathlib.Core.Bool.{not, _&&_}
 use Prim.Native.Nat.{ℕ, _-_}
 use native.Mathlib.Omega.{arith}
 use lib.Dec.{eqb}
-use Rattle.replacement.specs.Rule.{Rule, ruleOf}
+use Rattle.replacement.specs.Rule.{ruleOf}
 use Rattle.waymap.proofs.WayLaws.{Passed, passed-none, passed-more, passed-found, passed-all}
 use Rattle.verdict.specs.Calls.{readBy}
 use Rattle.verdict.specs.Refusal.{sharesNode}

@@ -1,6 +1,6 @@
 -- `verdict::reasons::shares_way` meets its contract. The invariant: no domain before shares one.
 use mathlib.Core.Path.{sym, _∙_}
-use mathlib.Core.Bool.{Bool, not, _&&_}
+use mathlib.Core.Bool.{not, _&&_}
 use Prim.Native.Nat.{ℕ, _-_}
 use native.Mathlib.Omega.{arith}
 use lib.Dec.{eqb}

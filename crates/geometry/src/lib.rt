@@ -1,0 +1,61 @@
+// The geometry of a cache: its limits, and how long the tables are.
+ghost use mathlib.Core.Path.{_≡_};
+ghost use Rattle.geometry.specs.Geometry.{within as withinLimits, sized as sizedAs, sizesOf};
+ghost use Rattle.geometry.specs.Inside.{Limited};
+
+const MAX_SETS: usize = 256;
+
+// The numbers of sets and ways, and the replacement rule.
+pub struct Geometry {
+    pub sets: usize,
+    pub ways: usize,
+    pub rule: usize,
+}
+
+// Whether the geometry is within the limits.
+pub fn within(g: Geometry) -> bool
+    ensures { λ r. ⌜ r ≡ withinLimits g ⌝ }
+{
+    let sets = g.sets;
+    if sets == 0 {
+        return false;
+    }
+    if MAX_SETS < sets {
+        return false;
+    }
+    if sets & (sets - 1) != 0 {
+        return false;
+    }
+    replacement::in_limits(g.ways, g.rule)
+}
+
+// Whether the tables have their lengths.
+fn sized(g: Geometry, tags: usize, valid: usize, dirty: usize, words: usize) -> bool
+    requires { ⌜ Limited g ⌝ }
+    ensures { λ r. ⌜ r ≡ sizedAs g (record { tags = tags; valid = valid; dirty = dirty; words = words }) ⌝ }
+{
+    let sets = g.sets;
+    if tags != sets * g.ways {
+        return false;
+    }
+    if valid != sets {
+        return false;
+    }
+    if dirty != sets {
+        return false;
+    }
+    words == sets
+}
+
+// Numbers 1 and 2; 0 for neither.
+pub fn sizes(g: Geometry, tags: usize, valid: usize, dirty: usize, words: usize) -> usize
+    ensures { λ r. ⌜ r ≡ sizesOf g (record { tags = tags; valid = valid; dirty = dirty; words = words }) ⌝ }
+{
+    if within(g) {} else {
+        return 1;
+    }
+    if sized(g, tags, valid, dirty, words) {} else {
+        return 2;
+    }
+    0
+}

@@ -1,0 +1,2 @@
+-- The hit lookup among the tags of a set.
+pub mod Lookup

@@ -1,0 +1,2 @@
+-- A domain's policy: its two maps, how they are read, and what a policy argument says.
+pub mod Policy

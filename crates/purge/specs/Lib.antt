@@ -1,0 +1,4 @@
+-- The struck-out list: document 01, "The struck-out run".
+pub mod Purge
+pub mod Calls
+pub mod Inside

@@ -1,0 +1,69 @@
+-- What a change of policy does to one line: what it cleans, what it leaves alone, and what its drops go by.
+use mathlib.Core.Path.{_≡_, sym, ap₂, _∙_}
+use mathlib.Core.Bool.{true, false, cond, _&&_}
+use Prim.Native.Nat.{ℕ, _≤_, _<_}
+use native.Mathlib.Nat.{lt-of-lt-of-le}
+use lib.ListN.{length}
+use Rattle.waymap.specs.Bits.{Bits, bit}
+use Rattle.waymap.proofs.Booleans.{cases}
+use Rattle.waymap.proofs.WordLaws.{bit-word-in}
+use Rattle.waymap.proofs.WayLaws.{count-ext}
+use Rattle.replacement.specs.Rule.{Rule}
+use Rattle.policy.specs.declared.Maps.{Maps}
+use Rattle.row.specs.Row.{Row}
+use Rattle.row.specs.View.{SameLine}
+use Rattle.row.proofs.LineLaws.{line-trans, line-sym}
+use Rattle.sweep.specs.Clean.{moved, without, dropped, droppedDirty, cleaned}
+use Rattle.sweep.proofs.TagLaws.{wiped-length, wiped-at}
+
+without-bit : (gone : Bits) (map v : ℕ) → v < 16 → bit (without gone map) v ≡ cond (gone v) false (bit map v)
+unfolding without
+without-bit gone map v h = bit-word-in 16 (λ (w : ℕ). cond (gone w) false (bit map w)) v h
+
+module _ {W : ℕ} (R : Rule) (few : W ≤ 16) (old new : Maps) where
+  -- a way that moves comes out the same whatever was in it; another way stays
+  pub clean-gone : (r q : Row) (v : ℕ) → v < W → moved old new v ≡ true → SameLine (cleaned R old new r) (cleaned R old new q) v
+  unfolding cleaned
+  clean-gone r q v h t =
+      let low : v < 16 = lt-of-lt-of-le h few in
+      record {
+        valid = without-bit (moved old new) (r .valid) v low ∙ rw t (sym (without-bit (moved old new) (q .valid) v low ∙ rw t));
+        dirty = without-bit (moved old new) (r .dirty) v low ∙ rw t (sym (without-bit (moved old new) (q .dirty) v low ∙ rw t));
+        tag = wiped-at (moved old new) (r .tags) v ∙ rw t (sym (wiped-at (moved old new) (q .tags) v ∙ rw t));
+      }
+
+  pub clean-leaves : (r : Row) (v : ℕ) → v < W → moved old new v ≡ false → SameLine (cleaned R old new r) r v
+  unfolding cleaned
+  clean-leaves r v h t =
+      let low : v < 16 = lt-of-lt-of-le h few in
+      record {
+        valid = without-bit (moved old new) (r .valid) v low ∙ rw t;
+        dirty = without-bit (moved old new) (r .dirty) v low ∙ rw t;
+        tag = wiped-at (moved old new) (r .tags) v ∙ rw t;
+      }
+
+  pub clean-agrees : (r q : Row) (v : ℕ) → v < W → SameLine r q v → SameLine (cleaned R old new r) (cleaned R old new q) v
+  clean-agrees r q v h e =
+      cases (moved old new v)
+      (λ t. clean-gone r q v h t)
+      (λ t. line-trans (clean-leaves r v h t) (line-trans e (line-sym (clean-leaves q v h t))))
+
+  -- the drops go by the lines in the ways that move
+  module _ (r q : Row) (long-r : length (r .tags) ≡ W) (long-q : length (q .tags) ≡ W) (e : (v : ℕ) → v < W → moved old new v ≡ true → SameLine r q v) where
+    pub drops-same : dropped old new r ≡ dropped old new q
+    unfolding dropped
+    drops-same =
+        rw (long-r, long-q)
+        (count-ext W (λ w h. cases (moved old new w) (λ t. rw t (e w h t .valid)) (λ t. rw t)))
+
+    pub dirty-drops-same : droppedDirty old new r ≡ droppedDirty old new q
+    unfolding droppedDirty
+    dirty-drops-same =
+        rw (long-r, long-q)
+        (count-ext W (λ w h. cases (moved old new w) (λ t. rw t (ap₂ _&&_ (e w h t .valid) (e w h t .dirty))) (λ t. rw t)))
+
+-- ---- a row keeps its length
+
+pub clean-long : (R : Rule) (old new : Maps) (r : Row) → length (cleaned R old new r .tags) ≡ length (r .tags)
+unfolding cleaned
+clean-long R old new r = wiped-length (moved old new) (r .tags)

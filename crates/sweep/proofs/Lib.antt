@@ -1,0 +1,4 @@
+-- The laws that the crates above cite.
+pub mod TagLaws
+pub mod SweepLaws
+pub mod CleanLaws

@@ -1,0 +1,3 @@
+-- A change of policy on one set: document 01, "Steps".
+pub mod Clean
+pub mod Sweep

@@ -1,0 +1,51 @@
+// A change of policy: worked out from the maps once, and then done to one set after another.
+mod lines;
+mod tags;
+
+use policy::Maps;
+use replacement::Change;
+use row::Done;
+use row::Lines;
+ghost use mathlib.Core.Path.{_≡_};
+ghost use Rattle.row.specs.Calls.{rowOf, result};
+ghost use Rattle.sweep.specs.Sweep.{sweepOf, sweepBy};
+
+// What a change of policy does to every set alike: the ways that are cleaned, and what becomes of the replacement word.
+pub struct Sweep {
+    pub gone: u16,
+    pub change: Change,
+}
+
+// A change of policy, worked out from the maps alone.
+pub fn sweep_of(ways: usize, rule: usize, old: Maps, new: Maps) -> Sweep
+    ensures { λ r. ⌜ r ≡ sweepOf ways rule old new ⌝ }
+{
+    let was = policy::as_read(ways, old);
+    let next = policy::as_read(ways, new);
+    Sweep {
+        gone: was.hit ^ next.hit,
+        change: replacement::change_of(ways, rule, was.fill, next.fill),
+    }
+}
+
+// What it does to the set.
+pub fn swept(tags: &mut [u64], lines: Lines, sweep: Sweep) -> Done
+    ensures { λ r. ⌜ result r (now (tags .exit)) ≡ sweepBy sweep (rowOf (now (tags .entry)) lines) ⌝ }
+{
+    let read = policy::as_read(
+        tags.len(),
+        Maps {
+            hit: sweep.gone,
+            fill: 0,
+        },
+    );
+    let gone = read.hit;
+    let change = sweep.change;
+    let answer = lines::dropped(lines, gone);
+    let left = lines::swept(lines, gone, change);
+    tags::wipe(tags, gone);
+    Done {
+        answer,
+        lines: left,
+    }
+}
