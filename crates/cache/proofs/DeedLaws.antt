@@ -9,19 +9,18 @@ use Rattle.policy.specs.Policy.{asRead, newMaps}
 use Rattle.sweep.specs.Clean.{dropped, droppedDirty, cleaned}
 use Rattle.sweep.specs.Sweep.{sweepOf}
 use Rattle.policy.specs.declared.Maps.{Maps}
-use Rattle.row.specs.declared.Answer.{Answer}
-use Rattle.row.specs.declared.Answer.the-variants.{Policy, Refused}
+use Rattle.command.specs.declared.Answer.{Answer}
+use Rattle.command.specs.declared.Answer.the-variants.{Policy, Refused}
 use Rattle.sweep.specs.declared.Sweep.{Sweep}
-use Rattle.verdict.specs.Domains.{mapsOf, isFull}
+use Rattle.domains.specs.Domains.{mapsOf, isFull, newDomain, usedDomain}
 use Rattle.verdict.specs.Refusal.{useRefusal}
 use Rattle.verdict.specs.Calls.{policyRefusalOf}
 use Rattle.geometry.specs.declared.Geometry.{Geometry}
-use Rattle.verdict.specs.declared.Domain.{Domain}
-use Rattle.verdict.specs.declared.Policies.{Policies}
+use Rattle.domains.specs.declared.Domain.{Domain}
+use Rattle.domains.specs.declared.Policies.{Policies}
 use Rattle.verdict.proofs.RefusalLaws.{not-full}
 use Rattle.cache.specs.Tables.{Tables, eachSet, total}
-use Rattle.cache.specs.Step.{newDomain}
-use Rattle.cache.specs.Inside.{Shaped, Work, RowWork, workAt, AllSwept, usedDomain, Deed, deedOf, unless, lineDeed, policyDeed}
+use Rattle.cache.specs.Inside.{Shaped, Work, RowWork, workAt, AllSwept, Deed, deedOf, unless, lineDeed, policyDeed}
 use Rattle.cache.specs.declared.account.Used.{Used}
 use Rattle.cache.specs.declared.sets.Drops.{Drops}
 use Rattle.cache.proofs.SweepLaws.{all-clean}

@@ -18,19 +18,20 @@ use Rattle.policy.specs.Policy.{asRead, newMaps}
 use Rattle.sweep.specs.Clean.{dropped, droppedDirty, cleaned}
 use Rattle.row.specs.Calls.{accessOf, flushOf}
 use Rattle.policy.specs.declared.Maps.{Maps}
-use Rattle.row.specs.declared.Answer.{Answer}
-use Rattle.row.specs.declared.Answer.the-variants.{Policy, Refused}
+use Rattle.command.specs.declared.Answer.{Answer}
+use Rattle.command.specs.declared.Answer.the-variants.{Policy, Refused}
 use Rattle.geometry.specs.Geometry.{within, sized, sizesOf}
-use Rattle.verdict.specs.Domains.{noDomain, domainOf, mapsOf, policies}
+use Rattle.domains.specs.Domains.{noDomain, domainOf, mapsOf, policies, putDomain, newDomain, usedDomain}
 use Rattle.command.specs.Kind.{Kind, kindOf, kindIs}
 use Rattle.verdict.specs.Refusal.{useRefusal, policyRefusal, refusal}
-use Rattle.verdict.specs.Calls.{policiesOf, policyRefusalOf}
+use Rattle.domains.specs.Calls.{policiesOf}
+use Rattle.verdict.specs.Calls.{policyRefusalOf}
 use Rattle.geometry.specs.declared.Geometry.{Geometry}
 use Rattle.command.specs.declared.Asked.{Asked}
 use Rattle.command.specs.declared.Asked.the-variants as AskedIs
-use Rattle.verdict.specs.declared.Domain.{Domain}
-use Rattle.verdict.specs.declared.Domains.{Domains}
-use Rattle.verdict.specs.declared.Policies.{Policies}
+use Rattle.domains.specs.declared.Domain.{Domain}
+use Rattle.domains.specs.declared.Domains.{Domains}
+use Rattle.domains.specs.declared.Policies.{Policies}
 use Rattle.command.proofs.Asked as AskedType
 use Rattle.geometry.proofs.GeometryLaws.{limited}
 use Rattle.command.proofs.KindLaws.{asked-policy}
@@ -38,9 +39,8 @@ use Rattle.verdict.proofs.RefusalLaws.{by-line, by-policy, by-unknown}
 use Rattle.verdict.proofs.PolicyLaws.{read-policies}
 use Rattle.cache.specs.Geometry.{setOf, tagOf}
 use Rattle.cache.specs.Tables.{Tables, lengths, rowAt, eachSet, total}
-use Rattle.cache.specs.Domains.{putDomain}
-use Rattle.cache.specs.Step.{State, Outcome, outcome, answers, onSet, rowEffect, useLine, newDomain, changePolicy, stepBy, decided, step}
-use Rattle.cache.specs.Inside.{Shaped, Work, onRow, workOf, workAt, lineWork, usedDomain, Deed, deedOf, unless, lineDeed, policyDeed}
+use Rattle.cache.specs.Step.{State, Outcome, outcome, answers, onSet, rowEffect, useLine, changePolicy, stepBy, decided, step}
+use Rattle.cache.specs.Inside.{Shaped, Work, onRow, workOf, workAt, lineWork, Deed, deedOf, unless, lineDeed, policyDeed}
 use Rattle.cache.specs.declared.Stepped.{Stepped}
 use Rattle.cache.specs.declared.account.Used.{Used}
 use Rattle.cache.proofs.SetLaws.{row-long}

@@ -12,7 +12,7 @@ use denote.Enum.Declared.{tagOf}
 use Rattle.waymap.specs.Bits.{bit, count}
 use Rattle.waymap.proofs.WayLaws.{count-le}
 use Rattle.replacement.specs.Rule.{Rule, ruleOf}
-use Rattle.row.proofs.Answer.{the-type}
+use Rattle.command.proofs.Answer.{the-type}
 use Rattle.sweep.proofs.TagLaws.{wiped-length}
 use Rattle.sweep.proofs.SweepLaws.{sweep-cleans}
 use Rattle.row.specs.Row.{Row, Effect, ways}
@@ -21,8 +21,8 @@ use Rattle.sweep.specs.Clean.{dropped, droppedDirty, cleaned, clean}
 use Rattle.sweep.specs.Sweep.{sweepOf, drops, sweepBy}
 use Rattle.sweep.specs.declared.Sweep.{Sweep}
 use Rattle.policy.specs.declared.Maps.{Maps}
-use Rattle.row.specs.declared.Answer.{Answer}
-use Rattle.row.specs.declared.Answer.the-variants.{Hit, Fill, Evict, Pass, Flush, Absent, Policy, Refused}
+use Rattle.command.specs.declared.Answer.{Answer}
+use Rattle.command.specs.declared.Answer.the-variants.{Hit, Fill, Evict, Pass, Flush, Absent, Policy, Refused}
 use Rattle.geometry.specs.declared.Geometry.{Geometry}
 use Rattle.cache.specs.Tables.{Tables, rowAt, putRow, eachSet, total}
 use Rattle.cache.specs.Inside.{Shaped, Work, RowWork, onRow, dropsIn, dropsOf, Swept, AllSwept}

@@ -13,19 +13,17 @@ use Rattle.row.specs.Calls.{accessOf, flushOf}
 use Rattle.sweep.specs.Sweep.{sweepBy}
 use Rattle.sweep.specs.declared.Sweep.{Sweep}
 use Rattle.policy.specs.declared.Maps.{Maps}
-use Rattle.row.specs.declared.Answer.{Answer}
-use Rattle.row.specs.declared.Answer.the-variants.{Hit, Fill, Evict, Pass, Flush, Absent, Policy, Refused}
-use Rattle.verdict.specs.Domains.{mapsOf}
+use Rattle.command.specs.declared.Answer.{Answer}
+use Rattle.command.specs.declared.Answer.the-variants.{Hit, Fill, Evict, Pass, Flush, Absent, Policy, Refused}
+use Rattle.domains.specs.Domains.{mapsOf, usedDomain, newDomain}
 use Rattle.verdict.specs.Refusal.{useRefusal}
 use Rattle.verdict.specs.Calls.{policyRefusalOf}
 use Rattle.geometry.specs.Inside.{Limited}
-use Rattle.verdict.specs.declared.Domain.{Domain}
-use Rattle.verdict.specs.declared.Policies.{Policies}
+use Rattle.domains.specs.declared.Domain.{Domain}
+use Rattle.domains.specs.declared.Policies.{Policies}
 use Rattle.geometry.specs.declared.Geometry.{Geometry}
 use Rattle.cache.specs.Geometry.{setOf, tagOf}
 use Rattle.cache.specs.Tables.{Tables, rowAt, putRow, eachSet, total}
-use Rattle.cache.specs.Domains.{counted}
-use Rattle.cache.specs.Step.{newDomain}
 use Rattle.cache.specs.declared.account.Used.{Used}
 use Rattle.cache.specs.declared.place.Place.{Place}
 use Rattle.cache.specs.declared.sets.Drops.{Drops}
@@ -100,10 +98,6 @@ lineWork true R store = Row.flush
 lineWork false R store = λ p tag. Row.access R p tag store
 
 -- ---- A step of one domain
-
--- A domain's record after an access or a flush.
-abbrev pub usedDomain : Answer → Domain → Domain
-usedDomain a x = record { hit = x .hit; fill = x .fill; counts = counted a (x .counts) }
 
 -- What a step answers, the record of the domain after it, and the tables.
 pub record Deed : Type 0 where

@@ -1,7 +1,6 @@
 -- The cache: document 01, "Geometry and tables" and "Steps".
 pub mod Geometry
 pub mod Tables
-pub mod Domains
 pub mod Step
 pub mod Run
 pub mod Inside

@@ -1,27 +1,24 @@
 -- Document 01, "Steps": what a step answers, and the tables, policies and counts after it.
-use mathlib.Core.Bool.{Bool, cond}
+use mathlib.Core.Bool.{cond}
 use mathlib.Core.List.{List}
 use Prim.Native.Nat.{ℕ}
 use lib.Dec.{eqb}
-use Rattle.replacement.specs.Rule.{Rule, ruleOf}
-use Rattle.row.specs.Answer.{answerOf}
+use Rattle.replacement.specs.Rule.{ruleOf}
+use Rattle.command.specs.Answer.{answerOf}
 use Rattle.row.specs.Row as Row
 use Rattle.row.specs.Row.{Row, Effect}
 use Rattle.sweep.specs.Clean.{dropped, droppedDirty, cleaned}
 use Rattle.policy.specs.Policy.{asRead, newMaps}
 use Rattle.policy.specs.declared.Maps.{Maps}
-use Rattle.row.specs.declared.Answer.{Answer}
-use Rattle.row.specs.declared.Answer.the-variants.{Policy, Refused}
-use Rattle.verdict.specs.Domains.{noCounts, domainOf, policies}
+use Rattle.command.specs.declared.Answer.{Answer}
+use Rattle.command.specs.declared.Answer.the-variants.{Policy, Refused}
+use Rattle.domains.specs.Domains.{domainOf, policies, putDomain, usedDomain, newDomain}
 use Rattle.command.specs.Kind.{Kind, access, flush, policy, unknown, kindOf}
 use Rattle.verdict.specs.Refusal.{refusal}
 use Rattle.geometry.specs.declared.Geometry.{Geometry}
-use Rattle.verdict.specs.declared.Counts.{Counts}
-use Rattle.verdict.specs.declared.Domain.{Domain}
-use Rattle.verdict.specs.declared.Domains.{Domains}
+use Rattle.domains.specs.declared.Domains.{Domains}
 use Rattle.cache.specs.Geometry.{setOf, tagOf}
 use Rattle.cache.specs.Tables.{Tables, lengths, rowAt, putRow, eachSet, total}
-use Rattle.cache.specs.Domains.{putDomain, counted}
 use Rattle.cache.specs.declared.Stepped.{Stepped}
 
 -- What a step finds and leaves.
@@ -43,10 +40,7 @@ answers a s = record { answer = answerOf a; state = s }
 unfoldable pub onSet : Geometry → ℕ → ℕ → Effect → State → Outcome
 onSet g d set e s = answers (e .answer) (record {
   tables = putRow (g .ways) set (e .row) (s .tables);
-  domains =
-      putDomain d
-      (record { hit = domainOf (s .domains) d .hit; fill = domainOf (s .domains) d .fill; counts = counted (e .answer) (domainOf (s .domains) d .counts) })
-      (s .domains);
+  domains = putDomain d (usedDomain (e .answer) (domainOf (s .domains) d)) (s .domains);
 })
 
 -- What the step does to the row of its address's set.
@@ -58,10 +52,6 @@ unfoldable pub useLine : Geometry → (Maps → ℕ → Row → Effect) → ℕ 
 useLine g work d address s = onSet g d (setOf g address) (rowEffect g work d address s) s
 
 -- ---- Policy
-
--- "both maps are stored." "Two zero maps remove the domain and zero its counts."
-unfoldable pub newDomain : ℕ → Domain → Domain
-newDomain arg x = record { hit = newMaps arg .hit; fill = newMaps arg .fill; counts = cond (eqb arg 0) noCounts (x .counts) }
 
 -- "Ways in exactly one of the old and new hit maps are cleaned in every set", the rule resets every replacement word, and the answer is
 -- what was dropped in all.

@@ -4,10 +4,10 @@ mod place;
 mod sets;
 mod work;
 
+use command::Answer;
 use command::Asked;
+use domains::Domains;
 use geometry::Geometry;
-use row::Answer;
-use verdict::Domains;
 ghost use mathlib.Core.Path.{_≡_};
 ghost use Rattle.cache.specs.Step.{tablesOf, outcome, step as stepOf};
 
@@ -49,7 +49,7 @@ pub fn step(
             account::put_back(domains, domain, used)
         }
         Asked::Policy => {
-            let policies = verdict::policies_of(domains);
+            let policies = domains::policies_of(domains);
             let used = work::policy(
                 g,
                 tags,

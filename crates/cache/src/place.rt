@@ -1,6 +1,5 @@
 // Where an address's line can be, and where a set's tags lie.
 use geometry::Geometry;
-ghost use mathlib.Core.Path.{_≡_};
 ghost use Prim.Native.Nat.{_<_};
 ghost use Rattle.geometry.specs.Inside.{Limited};
 ghost use Rattle.cache.specs.Inside.{PlaceOf, RowOf};

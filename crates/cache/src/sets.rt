@@ -1,8 +1,8 @@
 // The work on the sets of the tables: a set's row is lent, and its maps and word are put back.
 use crate::place;
+use command::Answer;
 use geometry::Geometry;
 use policy::Maps;
-use row::Answer;
 use row::Done;
 use row::Lines;
 use sweep::Sweep;

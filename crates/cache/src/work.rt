@@ -2,10 +2,10 @@
 use crate::account;
 use crate::account::Used;
 use crate::sets;
+use domains::Domain;
+use domains::Policies;
 use geometry::Geometry;
 use policy::Maps;
-use verdict::Domain;
-use verdict::Policies;
 ghost use mathlib.Core.Path.{_≡_};
 ghost use Rattle.cache.specs.Step.{tablesOf};
 ghost use Rattle.cache.specs.Inside.{Shaped, deedOf, lineDeed, policyDeed};

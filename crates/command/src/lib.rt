@@ -1,4 +1,4 @@
-// A step to take, its code, and what its kind asks for.
+// A step to take, its code, what its kind asks for, and what it answers.
 ghost use mathlib.Core.Path.{_≡_};
 ghost use Rattle.command.specs.Command.{commandOf, codeOf, commandIs};
 ghost use Rattle.command.specs.Kind.{kindOf, kindIs};
@@ -54,4 +54,18 @@ pub fn kind_of(kind: u8) -> Asked
         16 => Asked::Policy,
         4..=15 | 17..=255 => Asked::Unknown,
     }
+}
+
+// What a step answers.
+pub enum Answer {
+    Hit(usize),
+    Fill(usize),
+    Evict { way: usize, tag: u64, dirty: bool },
+    Pass,
+    Flush { way: usize, dirty: bool },
+    Absent,
+    // The valid lines that a change of policy dropped, and how many of them were dirty.
+    Policy { dropped: usize, dirty: usize },
+    // The number of the refusal.
+    Refused(usize),
 }

@@ -65,7 +65,7 @@ module _ (g : Geometry) (t : Tables) where
       rw (passed .0, passed .1, a, b, c, d, h .tags-long, h .valid-long, h .dirty-long, h .words-long, word-is)
     where
       passed : (within g ≡ true) × (sized g (lengths t) ≡ true)
-      passed = sizes-passed g (lengths t) (sym q ∙ z)
+      passed = sizes-passed g (lengths t) q z
 
       h : Shaped g t
       h = shaped g t (passed .0) (passed .1)

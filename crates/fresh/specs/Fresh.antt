@@ -4,9 +4,9 @@ use Prim.Native.Nat.{ℕ, _*_}
 use lib.ListN.{replicate}
 use Rattle.replacement.specs.Rule.{Rule, ruleOf}
 use Rattle.geometry.specs.Geometry.{within, sized}
-use Rattle.verdict.specs.Domains.{maxDomains, noDomain}
+use Rattle.domains.specs.Domains.{maxDomains, noDomain}
 use Rattle.geometry.specs.declared.Geometry.{Geometry}
-use Rattle.verdict.specs.declared.Domains.{Domains}
+use Rattle.domains.specs.declared.Domains.{Domains}
 use Rattle.cache.specs.Tables.{Tables, lengths}
 use Rattle.cache.specs.Step.{State}
 

@@ -1,10 +1,10 @@
 // A fresh cache.
 mod fill;
 
+use domains::Counts;
+use domains::Domain;
+use domains::Domains;
 use geometry::Geometry;
-use verdict::Counts;
-use verdict::Domain;
-use verdict::Domains;
 ghost use mathlib.Core.Path.{_≡_};
 ghost use Rattle.cache.specs.Step.{tablesOf};
 ghost use Rattle.fresh.specs.Fresh.{freshDomains, madeOf, freshOf};

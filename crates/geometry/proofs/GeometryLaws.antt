@@ -108,14 +108,12 @@ rows-bound g l = le-trans (mul-le-mul-left (g .sets) (l .most-ways)) (omega (ari
 -- ---- numbers 1 and 2
 
 -- numbers 1 and 2 let pass what is within the limits and of the right lengths
-pub sizes-passed : (g : Geometry) (n : Lengths) → sizesOf g n ≡ 0 → (within g ≡ true) × (sized g n ≡ true)
+pub sizes-passed : (g : Geometry) (n : Lengths) {m : ℕ} → m ≡ sizesOf g n → m ≡ 0 → (within g ≡ true) × (sized g n ≡ true)
 unfolding sizesOf
-sizes-passed g n e =
+sizes-passed g n e z =
+    let none : sizesOf g n ≡ 0 = sym e ∙ z in
     cases (within g)
     (λ w. cases (sized g n)
-    (λ z. (w, z))
-    (λ z. absurd (suc-ne-zero 1 (rw (w, z) at e))))
-    (λ w. absurd (suc-ne-zero 0 (rw w at e)))
-
-pub within-passed : (g : Geometry) (n : Lengths) {m : ℕ} → m ≡ sizesOf g n → m ≡ 0 → within g ≡ true
-within-passed g n e z = sizes-passed g n (sym e ∙ z) .0
+    (λ l. (w, l))
+    (λ l. absurd (suc-ne-zero 1 (rw (w, l) at none))))
+    (λ w. absurd (suc-ne-zero 0 (rw w at none)))

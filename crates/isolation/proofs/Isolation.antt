@@ -15,7 +15,7 @@ use Rattle.replacement.specs.Rule.{ruleOf}
 use Rattle.policy.specs.Policy.{asRead}
 use Rattle.row.proofs.LineLaws.{same-line}
 use Rattle.geometry.specs.Geometry.{within}
-use Rattle.verdict.specs.Domains.{noDomain, domainOf, policies}
+use Rattle.domains.specs.Domains.{noDomain, domainOf, policies}
 use Rattle.geometry.specs.Inside.{Limited}
 use Rattle.geometry.specs.declared.Geometry.{Geometry}
 use Rattle.geometry.proofs.GeometryLaws.{limited}

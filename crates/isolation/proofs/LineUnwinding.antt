@@ -12,23 +12,22 @@ use Rattle.replacement.specs.Rule.{Rule, ruleOf}
 use Rattle.row.specs.Row as Row
 use Rattle.row.specs.Row.{Row, Effect}
 use Rattle.policy.specs.Policy.{asRead}
-use Rattle.row.specs.Answer.{answerOf}
+use Rattle.command.specs.Answer.{answerOf}
 use Rattle.policy.specs.declared.Maps.{Maps}
-use Rattle.row.specs.declared.Answer.{Answer}
+use Rattle.command.specs.declared.Answer.{Answer}
 use Rattle.policy.proofs.ReadLaws.{Cut, cut-read}
 use Rattle.row.proofs.LineLaws.{access-long, flush-long}
-use Rattle.verdict.specs.Domains.{domainOf, policies}
+use Rattle.domains.specs.Domains.{domainOf, policies, putDomain, counted}
 use Rattle.geometry.specs.Inside.{Limited}
 use Rattle.geometry.specs.declared.Geometry.{Geometry}
-use Rattle.verdict.specs.declared.Domain.{Domain}
-use Rattle.verdict.specs.declared.Domains.{Domains}
+use Rattle.domains.specs.declared.Domain.{Domain}
+use Rattle.domains.specs.declared.Domains.{Domains}
 use Rattle.cache.specs.Geometry.{setOf, tagOf}
 use Rattle.cache.specs.Tables.{Tables, rowAt, putRow}
-use Rattle.cache.specs.Domains.{putDomain, counted}
 use Rattle.cache.specs.Step.{State, Outcome, onSet, rowEffect, useLine}
 use Rattle.cache.specs.Inside.{Shaped, lineWork}
 use Rattle.cache.proofs.SetLaws.{row-long, put-shaped, row-put-same, row-put-other}
-use Rattle.cache.proofs.DomainLaws as DomainLaws
+use Rattle.domains.proofs.DomainLaws as DomainLaws
 use Rattle.isolation.proofs.Relation.{Whole, Separate, Unheld, Unwritten, Alike, Related}
 use Rattle.isolation.proofs.RowUnwinding.{own-access, own-flush, other-access, other-flush}
 

@@ -15,24 +15,23 @@ use Rattle.replacement.specs.Isolates.{Isolates, Apart}
 use Rattle.row.specs.Row.{Row}
 use Rattle.policy.specs.Policy.{asRead, newMaps, badArgument}
 use Rattle.sweep.specs.Clean.{dropped, droppedDirty, cleaned}
-use Rattle.row.specs.Answer.{answerOf}
+use Rattle.command.specs.Answer.{answerOf}
 use Rattle.policy.specs.declared.Maps.{Maps}
-use Rattle.row.specs.declared.Answer.the-variants.{Policy}
+use Rattle.command.specs.declared.Answer.the-variants.{Policy}
 use Rattle.policy.proofs.ReadLaws.{Cut}
 use Rattle.sweep.proofs.CleanLaws.{clean-long}
-use Rattle.verdict.specs.Domains.{domainOf, policies}
+use Rattle.domains.specs.Domains.{domainOf, policies, putDomain, newDomain}
 use Rattle.verdict.specs.Refusal.{sharesWay, sharesNode, policyRefusal}
 use Rattle.geometry.specs.Inside.{Limited}
 use Rattle.geometry.specs.declared.Geometry.{Geometry}
-use Rattle.verdict.specs.declared.Domain.{Domain}
-use Rattle.verdict.specs.declared.Domains.{Domains}
+use Rattle.domains.specs.declared.Domain.{Domain}
+use Rattle.domains.specs.declared.Domains.{Domains}
 use Rattle.policy.proofs.ArgumentLaws.{good-maps}
 use Rattle.cache.specs.Tables.{Tables, rowAt, eachSet, total}
-use Rattle.cache.specs.Domains.{putDomain}
-use Rattle.cache.specs.Step.{State, Outcome, newDomain, changePolicy}
+use Rattle.cache.specs.Step.{State, Outcome, changePolicy}
 use Rattle.cache.specs.Inside.{Shaped}
 use Rattle.cache.proofs.SetLaws.{row-long, each-shaped, each-row}
-use Rattle.cache.proofs.DomainLaws as DomainLaws
+use Rattle.domains.proofs.DomainLaws as DomainLaws
 use Rattle.isolation.proofs.Relation.{Whole, Separate, Unheld, Unwritten, Alike, Related}
 use Rattle.isolation.proofs.RowUnwinding.{rule, clean-alike, own-drops}
 use Rattle.isolation.proofs.LineUnwinding.{policy-cut}

@@ -11,9 +11,9 @@ use Rattle.replacement.specs.Isolates.{Isolates, SameOwn, Apart}
 use Rattle.row.specs.Row.{Row}
 use Rattle.row.specs.View.{SameLine, SameView}
 use Rattle.policy.specs.declared.Maps.{Maps}
-use Rattle.verdict.specs.Domains.{domainOf, policies}
+use Rattle.domains.specs.Domains.{domainOf, policies}
 use Rattle.geometry.specs.declared.Geometry.{Geometry}
-use Rattle.verdict.specs.declared.Domains.{Domains}
+use Rattle.domains.specs.declared.Domains.{Domains}
 use Rattle.cache.specs.Tables.{Tables, rowAt}
 use Rattle.cache.specs.Step.{State}
 use Rattle.cache.specs.Inside.{Shaped}

@@ -7,9 +7,9 @@ use lib.Dec.{eqb, leb, ltb}
 use borrow.Author.Tests.{eqb-true, eqb-false, eq-eqb, ne-eqb, leb-true, leb-false, ltb-false, le-ltb, le-leb, lt-leb}
 use Rattle.waymap.proofs.Booleans.{cases}
 use Rattle.replacement.specs.Rule.{ruleOf}
-use Rattle.row.specs.declared.Answer.the-variants.{Refused}
+use Rattle.command.specs.declared.Answer.the-variants.{Refused}
 use Rattle.geometry.specs.Geometry.{within, sized}
-use Rattle.verdict.specs.Domains.{domainOf, policies}
+use Rattle.domains.specs.Domains.{domainOf, policies}
 use Rattle.command.specs.Kind.{Kind, access, flush, policy, unknown, kindOf}
 use Rattle.verdict.specs.Refusal.{useRefusal, policyRefusal, refusalBy, refusal}
 use Rattle.geometry.specs.Inside.{Limited}

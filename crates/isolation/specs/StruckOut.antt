@@ -6,7 +6,7 @@ use Prim.Native.Nat.{ℕ, _<_}
 use lib.Dec.{eqb}
 use Rattle.replacement.specs.Rule.{ruleOf}
 use Rattle.row.specs.View.{SameView}
-use Rattle.verdict.specs.Domains.{domainOf, policies}
+use Rattle.domains.specs.Domains.{domainOf, policies}
 use Rattle.geometry.specs.declared.Geometry.{Geometry}
 use Rattle.cache.specs.Tables.{rowAt}
 use Rattle.cache.specs.Step.{State}

@@ -11,16 +11,15 @@ use Rattle.row.specs.Row as Row
 use Rattle.sweep.specs.Clean as Clean
 use Rattle.lookup.specs.Lookup as Lookup
 use Rattle.geometry.specs.Geometry.{isPower, within, sized}
-use Rattle.verdict.specs.Domains.{domainOf, policies, isFull}
+use Rattle.domains.specs.Domains.{domainOf, policies, isFull, putDomain, counted, newDomain}
 use Rattle.command.specs.Kind.{kindOf}
 use Rattle.policy.specs.Policy.{asRead, newMaps, badArgument}
 use Rattle.verdict.specs.Refusal.{sharesWay, sharesNode, useRefusal, policyRefusal, refusalBy, refusal}
 use Rattle.geometry.specs.declared.Geometry.{Geometry}
-use Rattle.verdict.specs.declared.Counts.{Counts}
+use Rattle.domains.specs.declared.Counts.{Counts}
 use Rattle.cache.specs.Geometry.{setOf, tagOf}
 use Rattle.cache.specs.Tables.{rowAt, putRow, eachSet, total}
-use Rattle.cache.specs.Domains.{putDomain, counted}
-use Rattle.cache.specs.Step.{State, onSet, rowEffect, useLine, newDomain, changePolicy, stepBy, decided, step}
+use Rattle.cache.specs.Step.{State, onSet, rowEffect, useLine, changePolicy, stepBy, decided, step}
 use Rattle.command.specs.Command.{Command, commandOf}
 use Rattle.cache.specs.Run.{answersOf, finally}
 use Rattle.fresh.specs.Fresh.{freshTables, freshDomains, fresh}

@@ -5,11 +5,11 @@ use Prim.Native.Nat.{ℕ, zero, suc, _+_, _/_, _%_}
 use lib.Dec.{eqb, ltb}
 use lib.ListN.{getD}
 use Rattle.policy.specs.Policy.{asRead}
-use Rattle.verdict.specs.Domains.{maxDomains, domainOf}
+use Rattle.domains.specs.Domains.{maxDomains, domainOf}
 use Rattle.geometry.specs.declared.Geometry.{Geometry}
-use Rattle.verdict.specs.declared.Counts.{Counts}
-use Rattle.verdict.specs.declared.Domain.{Domain}
-use Rattle.verdict.specs.declared.Domains.{Domains}
+use Rattle.domains.specs.declared.Counts.{Counts}
+use Rattle.domains.specs.declared.Domain.{Domain}
+use Rattle.domains.specs.declared.Domains.{Domains}
 use Rattle.command.specs.Command.{Command}
 use Rattle.cache.specs.Run.{answersOf, finally}
 use Rattle.fresh.specs.Fresh.{fresh}

@@ -22,7 +22,7 @@ use Rattle.lookup.proofs.LookupLaws as LookupLaws
 use Rattle.policy.proofs.ReadLaws.{Cut}
 use Rattle.row.specs.View.{SameLine, SameView}
 use Rattle.policy.specs.declared.Maps.{Maps}
-use Rattle.row.specs.declared.Answer.the-variants.{Hit, Fill, Evict, Pass, Flush}
+use Rattle.command.specs.declared.Answer.the-variants.{Hit, Fill, Evict, Pass, Flush}
 
 -- ---- one line
 

@@ -19,7 +19,7 @@ use Rattle.row.specs.Calls.{rowOf}
 use Rattle.row.specs.Inside.{Usable, ChoiceOf, untagged, linesOf, missAt}
 use Rattle.policy.specs.declared.Maps.{Maps}
 use Rattle.row.specs.declared.Lines.{Lines}
-use Rattle.row.specs.declared.Answer.the-variants.{Hit, Fill, Evict, Pass, Flush, Absent}
+use Rattle.command.specs.declared.Answer.the-variants.{Hit, Fill, Evict, Pass, Flush, Absent}
 use Rattle.row.specs.declared.rules.Choice.{Choice}
 use Rattle.row.proofs.RuleLaws.{most-ways}
 use Rattle.lookup.proofs.LookupLaws.{hit-below, miss-above}

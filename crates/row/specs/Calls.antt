@@ -11,7 +11,7 @@ use Rattle.policy.specs.Policy.{asRead}
 use Rattle.policy.specs.declared.Maps.{Maps}
 use Rattle.row.specs.declared.Lines.{Lines}
 use Rattle.row.specs.declared.Done.{Done}
-use Rattle.row.specs.declared.Answer.the-variants.{Refused}
+use Rattle.command.specs.declared.Answer.the-variants.{Refused}
 
 -- A set's row from its lent tags and the rest by value.
 abbrev pub rowOf : List ℕ → Lines → Row

@@ -1,5 +1,4 @@
 -- The rules on one set: document 01, "Steps".
-pub mod Answer
 pub mod Row
 pub mod View
 pub mod Calls

@@ -7,8 +7,8 @@ use Rattle.waymap.specs.Bits.{Bits, bit, word, any, lowest, put}
 use Rattle.replacement.specs.Rule.{Rule}
 use Rattle.policy.specs.declared.Maps.{Maps}
 use Rattle.lookup.specs.Lookup as Lookup
-use Rattle.row.specs.declared.Answer.{Answer}
-use Rattle.row.specs.declared.Answer.the-variants.{Hit, Fill, Evict, Pass, Flush, Absent}
+use Rattle.command.specs.declared.Answer.{Answer}
+use Rattle.command.specs.declared.Answer.the-variants.{Hit, Fill, Evict, Pass, Flush, Absent}
 
 -- One set's part of the tables: "the W tags of a set side by side; valid and dirty, one 16-bit map per set each; replacement, one 64-bit
 -- word per set".

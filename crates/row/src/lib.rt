@@ -3,6 +3,7 @@ mod rules;
 mod update;
 mod work;
 
+use command::Answer;
 use policy::Maps;
 ghost use mathlib.Core.Path.{_≡_};
 ghost use Rattle.row.specs.Calls.{rowOf, result, accessOf, flushOf};
@@ -12,20 +13,6 @@ pub struct Lines {
     pub valid: u16,
     pub dirty: u16,
     pub word: u64,
-}
-
-// What a step answers.
-pub enum Answer {
-    Hit(usize),
-    Fill(usize),
-    Evict { way: usize, tag: u64, dirty: bool },
-    Pass,
-    Flush { way: usize, dirty: bool },
-    Absent,
-    // The valid lines that a change of policy dropped, and how many of them were dirty.
-    Policy { dropped: usize, dirty: usize },
-    // The number of the refusal.
-    Refused(usize),
 }
 
 // The answer, and what the set has beside its tags.

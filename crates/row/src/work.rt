@@ -1,9 +1,9 @@
 // The steps on a set, within the limits and with maps as read.
-use crate::Answer;
 use crate::Done;
 use crate::Lines;
 use crate::rules;
 use crate::update;
+use command::Answer;
 use policy::Maps;
 ghost use mathlib.Core.Path.{_≡_};
 ghost use mathlib.Core.Bool.{true};

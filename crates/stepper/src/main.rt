@@ -3,10 +3,10 @@
 // (2), the number of rows that follow (2), and the rows: set (2), valid map (2), dirty map (2), replacement word (8), tags (8 each). An
 // access or a flush has the row of its set, a policy change has all rows, and so has the block before the first step; other steps have
 // none. A refused file gives nothing.
+use domains::Domains;
 use geometry::Geometry;
 use libc::STDIN_FILENO;
 use libc::STDOUT_FILENO;
-use verdict::Domains;
 ghost use mathlib.Core.Path.{_≡_};
 ghost use Prim.Native.Nat.{_+_, _*_, _≤_, _<_};
 ghost use lib.ListN.{length};

@@ -20,7 +20,7 @@ use Rattle.policy.specs.Policy.{asRead}
 use Rattle.policy.specs.declared.Maps.{Maps}
 use Rattle.policy.proofs.ReadLaws as ReadLaws
 use Rattle.row.specs.Row.{Row, ways}
-use Rattle.row.specs.declared.Answer.the-variants.{Policy}
+use Rattle.command.specs.declared.Answer.the-variants.{Policy}
 use Rattle.row.proofs.RuleLaws.{most-ways}
 use Rattle.sweep.specs.Clean.{moved, without, wiped, dropped, droppedDirty, cleaned, clean}
 use Rattle.sweep.specs.Sweep.{sweepOf, drops, sweptLines, sweepBy}

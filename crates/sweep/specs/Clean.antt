@@ -6,7 +6,7 @@ use Rattle.waymap.specs.Bits.{Bits, bit, word, count}
 use Rattle.replacement.specs.Rule.{Rule}
 use Rattle.policy.specs.declared.Maps.{Maps}
 use Rattle.row.specs.Row.{Row, Effect, ways}
-use Rattle.row.specs.declared.Answer.the-variants.{Policy}
+use Rattle.command.specs.declared.Answer.the-variants.{Policy}
 
 -- "Ways in exactly one of the old and new hit maps".
 unfoldable pub moved : Maps → Maps → Bits

@@ -12,8 +12,8 @@ use Rattle.row.specs.Calls.{rowOf}
 use Rattle.policy.specs.declared.Maps.{Maps}
 use Rattle.row.specs.declared.Lines.{Lines}
 use Rattle.sweep.specs.declared.Sweep.{Sweep}
-use Rattle.row.specs.declared.Answer.{Answer}
-use Rattle.row.specs.declared.Answer.the-variants.{Policy}
+use Rattle.command.specs.declared.Answer.{Answer}
+use Rattle.command.specs.declared.Answer.the-variants.{Policy}
 
 -- The ways that are cleaned, and the change of fill map.
 unfoldable pub sweepOf : ℕ → ℕ → Maps → Maps → Sweep

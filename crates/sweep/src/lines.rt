@@ -1,6 +1,6 @@
 // What a set has beside its tags: valid map, dirty map and replacement word.
+use command::Answer;
 use replacement::Change;
-use row::Answer;
 use row::Lines;
 ghost use mathlib.Core.Path.{_≡_};
 ghost use Rattle.sweep.specs.Sweep.{drops, sweptLines};

@@ -8,15 +8,15 @@ use lib.Dec.{eqb}
 use lib.ListN.{length, take, length-take}
 use borrow.Author.Tests.{eq-eqb, ne-eqb}
 use denote.Enum.Declared.{tagOf}
-use Rattle.row.proofs.Answer.{the-type}
-use Rattle.row.specs.Answer.{answerOf}
+use Rattle.command.proofs.Answer.{the-type}
+use Rattle.command.specs.Answer.{answerOf}
 use Rattle.policy.specs.Policy.{asRead}
 use Rattle.policy.specs.declared.Maps.{Maps}
-use Rattle.row.specs.declared.Answer.{Answer}
-use Rattle.row.specs.declared.Answer.the-variants.{Hit, Fill, Evict, Pass, Flush, Absent, Policy, Refused}
-use Rattle.verdict.specs.Domains.{domainOf}
-use Rattle.verdict.specs.declared.Domain.{Domain}
-use Rattle.verdict.specs.declared.Domains.{Domains}
+use Rattle.command.specs.declared.Answer.{Answer}
+use Rattle.command.specs.declared.Answer.the-variants.{Hit, Fill, Evict, Pass, Flush, Absent, Policy, Refused}
+use Rattle.domains.specs.Domains.{domainOf}
+use Rattle.domains.specs.declared.Domain.{Domain}
+use Rattle.domains.specs.declared.Domains.{Domains}
 use Rattle.listing.specs.Listing.{decimal, line, domainLine, domainPart, domainLines}
 use Rattle.trace.specs.Inside.{Written, writtenOf, append, Says}
 use Rattle.trace.specs.declared.lines.Phrase.{Phrase}

@@ -6,8 +6,8 @@ use Prim.Native.Nat.{ℕ, zero, suc, _+_, _-_, _*_, _≤_, _<_}
 use native.Mathlib.Omega.{arith}
 use lib.ListN.{length}
 use Rattle.geometry.specs.Geometry.{within, Lengths, sized}
-use Rattle.verdict.specs.Domains.{maxDomains}
-use Rattle.verdict.specs.declared.Domains.{Domains}
+use Rattle.domains.specs.Domains.{maxDomains}
+use Rattle.domains.specs.declared.Domains.{Domains}
 use Rattle.geometry.specs.declared.Geometry.{Geometry}
 use Rattle.command.specs.Command.{Command}
 use Rattle.cache.specs.Run.{stepOn, answersOf, finally}

@@ -7,7 +7,7 @@ use lib.Dec.{ltb}
 use lib.ListN.{length, take}
 use lib.Seq.{sets}
 use Rattle.geometry.specs.declared.Geometry.{Geometry}
-use Rattle.verdict.specs.declared.Domains.{Domains}
+use Rattle.domains.specs.declared.Domains.{Domains}
 use Rattle.cache.specs.Run.{answersOf, finally}
 use Rattle.fresh.specs.Fresh.{fresh}
 use Rattle.cache.specs.Tables.{Tables}

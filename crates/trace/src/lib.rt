@@ -3,9 +3,9 @@ mod lines;
 mod text;
 
 use cache::Stepped;
+use command::Answer;
+use domains::Domains;
 use geometry::Geometry;
-use row::Answer;
-use verdict::Domains;
 ghost use mathlib.Core.Path.{_≡_};
 ghost use mathlib.Core.Bool.{true};
 ghost use Prim.Native.Nat.{_+_, _*_, _≤_};

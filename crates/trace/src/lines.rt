@@ -1,16 +1,16 @@
 // The lines of a listing.
 use crate::text;
+use command::Answer;
+use domains::Counts;
+use domains::Domain;
+use domains::Domains;
 use geometry::Geometry;
 use policy::Maps;
-use row::Answer;
-use verdict::Counts;
-use verdict::Domain;
-use verdict::Domains;
 ghost use mathlib.Core.Path.{_≡_};
 ghost use mathlib.Core.List.{[], _∷_, map};
 ghost use Prim.Native.Nat.{_+_, _*_, _≤_, _<_};
 ghost use lib.ListN.{length};
-ghost use Rattle.row.specs.Answer.{answerOf};
+ghost use Rattle.command.specs.Answer.{answerOf};
 ghost use Rattle.listing.specs.Listing.{decimal, line, told as toldAs, headLine, refusedLine, domainLine, domainPart, domainLines};
 ghost use Rattle.trace.specs.Inside.{writtenOf, append, Says};
 

@@ -26,13 +26,13 @@ use Rattle.policy.proofs.ReadLaws.{fill-within}
 use Rattle.command.proofs.KindLaws.{asked-policy, asked-unknown}
 use Rattle.geometry.proofs.GeometryLaws.{sizes-passed}
 use Rattle.geometry.specs.Geometry.{within, Lengths, sized, sizesOf}
-use Rattle.verdict.specs.Domains.{noDomain, mapsOf, isFull}
+use Rattle.domains.specs.Domains.{noDomain, mapsOf, isFull}
 use Rattle.command.specs.Kind.{Kind, kindOf, kindIs}
 use Rattle.verdict.specs.Refusal.{useRefusal, policyRefusal, refusalBy, refusal}
-use Rattle.verdict.specs.Calls.{readBy}
+use Rattle.domains.specs.Calls.{readBy}
 use Rattle.geometry.specs.declared.Geometry.{Geometry}
-use Rattle.verdict.specs.declared.Counts.{Counts}
-use Rattle.verdict.specs.declared.Policies.{Policies}
+use Rattle.domains.specs.declared.Counts.{Counts}
+use Rattle.domains.specs.declared.Policies.{Policies}
 use Rattle.command.specs.declared.Asked.{Asked}
 use Rattle.command.specs.declared.Asked.the-variants as AskedIs
 use Rattle.command.proofs.Asked as AskedType
@@ -109,7 +109,7 @@ module _ (g : Geometry) (n : Lengths) (policies : ℕ → Maps) (c : Counts) (d 
 
   module _ {m : ℕ} (e : m ≡ sizesOf g n) (z : m ≡ 0) where
     passed : (within g ≡ true) × (sized g n ≡ true)
-    passed = sizes-passed g n (sym e ∙ z)
+    passed = sizes-passed g n e z
 
     pub by-domain : 16 ≤ d → 3 ≡ refusal g n policies c d kind arg
     unfolding refusal

@@ -9,9 +9,9 @@ use Rattle.command.specs.Kind.{Kind, access, flush, policy, unknown, kindOf}
 use Rattle.policy.specs.Policy.{newMaps, badArgument}
 use Rattle.policy.specs.declared.Maps.{Maps}
 use Rattle.geometry.specs.Geometry.{within, Lengths, sized}
-use Rattle.verdict.specs.Domains.{maxDomains, isFull}
+use Rattle.domains.specs.Domains.{maxDomains, isFull}
 use Rattle.geometry.specs.declared.Geometry.{Geometry}
-use Rattle.verdict.specs.declared.Counts.{Counts}
+use Rattle.domains.specs.declared.Counts.{Counts}
 
 -- "8: policy whose hit map shares a way with another domain's."
 unfoldable pub sharesWay : (ℕ → Maps) → ℕ → Maps → Bool

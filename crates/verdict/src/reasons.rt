@@ -1,6 +1,6 @@
 // What numbers 5 to 9 look at.
-use crate::Counts;
-use crate::Policies;
+use domains::Counts;
+use domains::Policies;
 use geometry::Geometry;
 use policy::Maps;
 use replacement::Reply;
@@ -12,11 +12,8 @@ ghost use Rattle.waymap.specs.Bits.{bit, any, reaches};
 ghost use Rattle.replacement.specs.Rule.{ruleOf};
 ghost use Rattle.replacement.specs.Calls.{inLimits};
 ghost use Rattle.policy.specs.Policy.{asRead};
-ghost use Rattle.verdict.specs.Domains.{isFull};
 ghost use Rattle.verdict.specs.Refusal.{sharesWay, sharesNode, useRefusal, policyRefusal};
-ghost use Rattle.verdict.specs.Calls.{readBy};
-
-const LARGEST: u32 = 4_294_967_295;
+ghost use Rattle.domains.specs.Calls.{readBy};
 
 // A domain's policy as read.
 fn read_by(ways: usize, policies: Policies, d: usize) -> Maps
@@ -24,25 +21,6 @@ fn read_by(ways: usize, policies: Policies, d: usize) -> Maps
     ensures { λ r. ⌜ r ≡ readBy ways policies d ⌝ }
 {
     policy::as_read(ways, policies.maps[d])
-}
-
-// Whether a count has reached the largest number.
-fn is_full(c: Counts) -> bool
-    ensures { λ r. ⌜ r ≡ isFull c ⌝ }
-{
-    if c.hits == LARGEST {
-        return true;
-    }
-    if c.misses == LARGEST {
-        return true;
-    }
-    if c.evicted == LARGEST {
-        return true;
-    }
-    if c.written == LARGEST {
-        return true;
-    }
-    c.flushed == LARGEST
 }
 
 // Of an access or a flush, given the domain's own maps and counts: numbers 6 and 7; 0 for neither.
@@ -53,7 +31,7 @@ pub fn line_refusal(ways: usize, stored: Maps, counts: Counts) -> usize
     if read.hit == 0 {
         return 6;
     }
-    if is_full(counts) {
+    if domains::is_full(counts) {
         return 7;
     }
     0

@@ -1,12 +1,11 @@
 -- `cache::step` meets its contract.
 use native.Mathlib.Omega.{arith}
-use Rattle.verdict.specs.Domains.{domainOf, policies}
+use Rattle.domains.specs.Domains.{domainOf, policies}
 use Rattle.geometry.proofs.GeometryLaws.{sizes-passed}
 use Rattle.verdict.proofs.RefusalLaws.{by-sizes, by-domain}
 use Rattle.cache.specs.Tables.{Tables, lengths}
 use Rattle.cache.specs.Step.{tablesOf}
 use Rattle.cache.specs.Inside.{Shaped}
-use mathlib.Core.Path.{sym, _∙_}
 use Rattle.cache.proofs.StepLaws.{shaped, step-refused, step-line, step-policy, step-unknown}
 use borrow.Author.Needs.{needs}
 use Rattle.cache.proofs.step.Statement.{statement}
@@ -20,7 +19,7 @@ lent c = tablesOf (c .args .tags .now) (c .args .valid .now) (c .args .dirty .no
 is-shaped : (c : tie.Else1) → Shaped (c .before .before .before .before .before .before .args .g) (lent (c .before .before .before .before .before .before))
 is-shaped c =
     let entry = c .before .before .before .before .before .before in
-    let passed = sizes-passed (entry .args .g) (lengths (lent entry)) (sym (c .before .sizes .ensures) ∙ c .if1 .left) in
+    let passed = sizes-passed (entry .args .g) (lengths (lent entry)) (c .before .sizes .ensures) (c .if1 .left) in
     shaped (entry .args .g) (lent entry) (passed .0) (passed .1)
 
 sizes-requires : tie.Need-sizes-requires
@@ -107,9 +106,10 @@ returns-3 c =
     let asked = told .before .before .kind-of in
     let sized = told .before .before .before .before .before in
     let entry = sized .before .before .before .before .before .before in
+    let last = called .line .last .1 in
     step-line (entry .args .g) (entry .args .domain) (entry .args .kind) (entry .args .argument) (lent entry) (entry .args .t6) (is-shaped sized)
     (asked .result) (asked .ensures) (sized .before .sizes .ensures) (sized .if1 .left) (told .before .before .before .before .if2 .left)
-    _ _ (told .asked .given .1) (called .line .ensures) (c .put-back .ensures)
+    _ _ {u = tablesOf (last .0) (last .1 .0) (last .1 .1 .0) (last .1 .1 .1 .0)} (told .asked .given .1) (called .line .ensures) (c .put-back .ensures)
 
 same-length-5 : tie.Need-same-length-5
 same-length-5 c = search needs
@@ -132,9 +132,10 @@ returns-4 c =
     let asked = chosen .before .kind-of in
     let sized = chosen .before .before .before .before in
     let entry = sized .before .before .before .before .before .before in
+    let last = called .policy .last .1 in
     step-policy (entry .args .g) (entry .args .domain) (entry .args .kind) (entry .args .argument) (lent entry) (entry .args .t6) (is-shaped sized)
     (asked .result) (asked .ensures) (sized .before .sizes .ensures) (sized .if1 .left) (chosen .before .before .before .if2 .left)
-    (chosen .match .keys2) (gathered .policies-of .ensures) (called .policy .ensures) (c .put-back2 .ensures)
+    {u = tablesOf (last .0) (last .1 .0) (last .1 .1 .0) (last .1 .1 .1 .0)} (chosen .match .keys2) (gathered .policies-of .ensures) (called .policy .ensures) (c .put-back2 .ensures)
 
 returns-5 : tie.Need-returns-5
 returns-5 c =

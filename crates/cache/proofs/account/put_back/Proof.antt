@@ -1,6 +1,6 @@
 -- `cache::account::put_back` meets its contract.
 use mathlib.Core.Path.{refl}
-use Rattle.cache.specs.Domains.{putDomain}
+use Rattle.domains.specs.Domains.{putDomain}
 use borrow.Author.Needs.{needs}
 use Rattle.cache.proofs.account.put_back.Statement.{statement}
 use Rattle.cache.proofs.account.put_back.Tie as tie

@@ -50,7 +50,9 @@ returns-2 c =
     let asked = c .before .before .before .before .before .before .before .before .before .before .before .before .before .before .before in
     let entry = asked .before .before .before .before .before in
     let done = c .before .before .before .before .before .before .before .before .before .use-set in
+    let last = done .last .1 in
     line-done (entry .args .g) (entry .args .own) (entry .args .flush) (entry .args .store) (entry .args .address) (lent entry) (asked .line-refusal .ensures)
+    {v = tablesOf (last .0) (last .1 .0) (last .1 .1 .0) (last .1 .1 .1 .0)}
     (c .before .before .before .before .before .before .before .before .before .before .before .before .before .before .if1 .left) (done .ensures)
     (c .after-use .ensures)
 

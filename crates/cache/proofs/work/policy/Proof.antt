@@ -53,8 +53,9 @@ returns-2 c =
     let worked = swept .before .before .before .before .before in
     let asked = worked .before .before .before in
     let entry = asked .before .before .before .before .before in
+    let last = swept .sweep-sets .last .1 in
     policy-done (entry .args .g) (entry .args .own) (entry .args .policies) (entry .args .domain) (entry .args .argument) (lent entry)
-    (asked .policy-refusal .ensures) (entry .pre) (worked .before .before .if1 .left) (worked .before .new-maps .ensures) (worked .sweep-of .ensures)
+    (asked .policy-refusal .ensures) {v = tablesOf (last .0) (last .1 .0) (last .1 .1 .0) (last .1 .1 .1 .0)} (entry .pre) (worked .before .before .if1 .left) (worked .before .new-maps .ensures) (worked .sweep-of .ensures)
     (swept .sweep-sets .ensures) (c .after-change .ensures)
 
 pub policy-spec : {M : Type 1} → statement M

@@ -5,7 +5,7 @@ use Rattle.waymap.specs.Bits.{bit}
 use Rattle.waymap.proofs.BitLaws.{bit-and}
 use Rattle.waymap.proofs.WayLaws.{count-ext}
 use Rattle.sweep.specs.Sweep.{drops}
-use Rattle.row.specs.declared.Answer.the-variants.{Policy}
+use Rattle.command.specs.declared.Answer.the-variants.{Policy}
 use borrow.Author.Needs.{needs}
 use Rattle.sweep.proofs.lines.dropped.Statement.{statement}
 use Rattle.sweep.proofs.lines.dropped.Tie as tie

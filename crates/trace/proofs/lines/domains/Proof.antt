@@ -1,7 +1,7 @@
 -- `trace::lines::domains` meets its contract. The invariant: the domains to come make the whole.
 use Prim.Native.Nat.{_-_}
 use native.Mathlib.Omega.{arith}
-use Rattle.verdict.specs.Domains.{domainOf}
+use Rattle.domains.specs.Domains.{domainOf}
 use Rattle.trace.proofs.LineLaws.{Naming, name-begin, name-room, name-turned, name-short, name-end}
 use Rattle.trace.proofs.lines.domains.Statement.{statement}
 use Rattle.trace.proofs.lines.domains.Tie as tie

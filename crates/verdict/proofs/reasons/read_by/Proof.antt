@@ -1,5 +1,5 @@
 -- `verdict::reasons::read_by` meets its contract.
-use Rattle.verdict.specs.Calls.{readBy}
+use Rattle.domains.specs.Calls.{readBy}
 use borrow.Author.Needs.{needs}
 use Rattle.verdict.proofs.reasons.read_by.Statement.{statement}
 use Rattle.verdict.proofs.reasons.read_by.Tie as tie

@@ -6,7 +6,7 @@ use native.Mathlib.Omega.{arith}
 use lib.Dec.{eqb}
 use Rattle.replacement.specs.Rule.{ruleOf}
 use Rattle.waymap.proofs.WayLaws.{Passed, passed-none, passed-more, passed-found, passed-all}
-use Rattle.verdict.specs.Calls.{readBy}
+use Rattle.domains.specs.Calls.{readBy}
 use Rattle.verdict.specs.Refusal.{sharesNode}
 use Rattle.verdict.proofs.reasons.shares_node.Statement.{statement}
 use Rattle.verdict.proofs.reasons.shares_node.Tie as tie

@@ -1,21 +1,20 @@
 -- Counts: which are full, and what an answer adds.
-use mathlib.Core.Path.{_≡_, refl, sym, ap, _∙_}
+use mathlib.Core.Path.{_≡_, refl}
 use mathlib.Core.Logic.{_⊎_, inl, inr}
-use mathlib.Core.Bool.{Bool, true, false, _||_}
+use mathlib.Core.Bool.{false, _||_}
 use mathlib.Core.List.{[], _∷_}
-use Prim.Native.Nat.{ℕ, zero, suc, _+_, _≤_, _<_}
+use Prim.Native.Nat.{ℕ, _<_}
 use native.Mathlib.Omega.{arith}
 use lib.Dec.{eqb}
 use borrow.Author.Tests.{eqb-false}
 use types.Run.{OneOf}
 use denote.Enum.Declared.{tagOf}
-use Rattle.row.proofs.Answer.{the-type}
-use Rattle.row.specs.declared.Answer.{Answer}
-use Rattle.row.specs.declared.Answer.the-variants.{Hit, Fill, Evict, Pass, Flush, Absent, Policy, Refused}
+use Rattle.command.proofs.Answer.{the-type}
+use Rattle.command.specs.declared.Answer.{Answer}
+use Rattle.command.specs.declared.Answer.the-variants.{Hit, Fill, Evict, Pass, Flush, Absent, Policy, Refused}
 use Rattle.waymap.proofs.Booleans.{or-none}
-use Rattle.verdict.specs.Domains.{isFull}
-use Rattle.verdict.specs.declared.Counts.{Counts}
-use Rattle.cache.specs.Domains.{counted}
+use Rattle.domains.specs.Domains.{isFull, counted}
+use Rattle.domains.specs.declared.Counts.{Counts}
 
 -- ---- room for one more
 

@@ -1,9 +1,9 @@
--- `cache::account::with_dirty` meets its contract.
+-- `domains::with_dirty` meets its contract.
 use borrow.Author.Needs.{needs}
 use mathlib.Core.Path.{sym}
 use native.Mathlib.Nat.{add-zero}
-use Rattle.cache.proofs.account.with_dirty.Statement.{statement}
-use Rattle.cache.proofs.account.with_dirty.Tie as tie
+use Rattle.domains.proofs.with_dirty.Statement.{statement}
+use Rattle.domains.proofs.with_dirty.Tie as tie
 
 add-result : tie.Need-add-result
 add-result c = search needs

@@ -1,7 +1,7 @@
--- `cache::account::kept` meets its contract.
+-- `domains::kept` meets its contract.
 use borrow.Author.Tests.{eq-eqb, ne-eqb}
-use Rattle.cache.proofs.account.kept.Statement.{statement}
-use Rattle.cache.proofs.account.kept.Tie as tie
+use Rattle.domains.proofs.kept.Statement.{statement}
+use Rattle.domains.proofs.kept.Tie as tie
 
 returns : tie.Need-returns
 returns c = rw (eq-eqb (c .before .args .argument) 0 (c .if1 .taken))

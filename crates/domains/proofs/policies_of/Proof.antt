@@ -1,11 +1,11 @@
--- `verdict::policies_of` meets its contract. The invariant: the first ones are there.
+-- `domains::policies_of` meets its contract. The invariant: the first ones are there.
 use mathlib.Core.Path.{refl}
 use Prim.Native.Nat.{_-_}
 use native.Mathlib.Omega.{arith}
-use Rattle.verdict.specs.Domains.{domainOf}
-use Rattle.verdict.proofs.PolicyLaws.{Gathering, begin, turned, end}
-use Rattle.verdict.proofs.policies_of.Statement.{statement}
-use Rattle.verdict.proofs.policies_of.Tie as tie
+use Rattle.domains.specs.Domains.{domainOf}
+use Rattle.domains.proofs.PolicyLaws.{Gathering, begin, turned, end}
+use Rattle.domains.proofs.policies_of.Statement.{statement}
+use Rattle.domains.proofs.policies_of.Tie as tie
 
 abbrev Inv-loop : tie.InvT-loop
 Inv-loop domains maps₀ d₀ maps d = Gathering domains maps d

@@ -2,8 +2,8 @@
 use mathlib.Core.List.{List, [], _∷_}
 use Prim.Native.Nat.{ℕ}
 use Rattle.waymap.specs.Bits.{digit}
-use Rattle.row.specs.declared.Answer.{Answer}
-use Rattle.row.specs.declared.Answer.the-variants.{Hit, Fill, Evict, Pass, Flush, Absent, Policy, Refused}
+use Rattle.command.specs.declared.Answer.{Answer}
+use Rattle.command.specs.declared.Answer.the-variants.{Hit, Fill, Evict, Pass, Flush, Absent, Policy, Refused}
 
 -- Document 01's word and values of each answer. The words are numbered from 0 as `hit` way; `fill` way; `evict` way, tag, dirty; `pass`;
 -- `flush` way, dirty; `absent`; `policy` dropped, dirty dropped; `refused` number.

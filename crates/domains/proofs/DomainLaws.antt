@@ -1,17 +1,12 @@
 -- The domains: one of them written, and the others as they were.
-use mathlib.Core.Path.{_≡_, refl, sym, ap, _∙_}
-use mathlib.Core.Bool.{Bool, true, false, cond}
+use mathlib.Core.Path.{_≡_, ap, _∙_}
 use Prim.Native.Nat.{ℕ, _<_}
-use native.Mathlib.Omega.{arith}
-use lib.Dec.{eqb}
-use lib.ListN.{length, getD, set, length-set}
+use lib.ListN.{length, length-set}
 use lib.Seq.{getD-set-same, getD-set-other}
 use Rattle.policy.specs.Policy.{asRead}
-use Rattle.policy.specs.declared.Maps.{Maps}
-use Rattle.verdict.specs.Domains.{noDomain, domainOf, policies}
-use Rattle.verdict.specs.declared.Domain.{Domain}
-use Rattle.verdict.specs.declared.Domains.{Domains}
-use Rattle.cache.specs.Domains.{putDomain}
+use Rattle.domains.specs.Domains.{noDomain, domainOf, policies, putDomain}
+use Rattle.domains.specs.declared.Domain.{Domain}
+use Rattle.domains.specs.declared.Domains.{Domains}
 
 module _ (ds : Domains) (d : ℕ) (x : Domain) where
   pub put-sixteen : length (ds .records) ≡ 16 → length (putDomain d x ds .records) ≡ 16

@@ -1,8 +1,8 @@
--- `verdict::reasons::is_full` meets its contract.
+-- `domains::is_full` meets its contract.
 use borrow.Author.Tests.{eq-eqb, ne-eqb}
-use Rattle.verdict.specs.Domains.{isFull}
-use Rattle.verdict.proofs.reasons.is_full.Statement.{statement}
-use Rattle.verdict.proofs.reasons.is_full.Tie as tie
+use Rattle.domains.specs.Domains.{isFull}
+use Rattle.domains.proofs.is_full.Statement.{statement}
+use Rattle.domains.proofs.is_full.Tie as tie
 
 returns : tie.Need-returns
 unfolding isFull

@@ -1,11 +1,10 @@
--- `cache::account::counted` meets its contract.
+-- `domains::counted` meets its contract.
 use borrow.Author.Needs.{needs}
-use mathlib.Core.Path.{_≡_}
 use native.Mathlib.Omega.{arith}
-use Rattle.cache.specs.Domains.{counted}
-use Rattle.cache.proofs.CountLaws.{unspent, is-pass, rest-stays}
-use Rattle.cache.proofs.account.counted.Statement.{statement}
-use Rattle.cache.proofs.account.counted.Tie as tie
+use Rattle.domains.specs.Domains.{counted}
+use Rattle.domains.proofs.CountLaws.{unspent, is-pass, rest-stays}
+use Rattle.domains.proofs.counted.Statement.{statement}
+use Rattle.domains.proofs.counted.Tie as tie
 
 enum-known-answer : tie.Need-enum-known-answer
 enum-known-answer c = search needs

@@ -1,0 +1,4 @@
+-- The laws that the crates above cite.
+pub mod CountLaws
+pub mod DomainLaws
+pub mod PolicyLaws
