@@ -59,16 +59,18 @@ pub record CaseFG : Type 0 where
 
 pub case-a : CaseA
 unfolding answersOf finally step decided stepBy changePolicy newDomain useLine rowEffect onSet refusal refusalBy policyRefusal useRefusal sharesNode
-    sharesWay badArgument newMaps kindOf counted isFull policies putDomain domainOf total eachSet putRow rowAt sized tagOf setOf within isPower freshTables
-    freshDomains fresh isWays inLimits asRead Lookup.matches Lookup.isHit Lookup.hitWay Row.hitAt Row.filled Row.vacant Row.fillAt Row.evictAt Row.accessBy
-    Row.access Row.flushAt Row.flush Clean.moved Clean.without Clean.wiped Clean.dropped Clean.droppedDirty Clean.cleaned bit word any lowest count put reaches xor
-    Tree.passes Tree.under Tree.holds Tree.free Tree.forcedRight Tree.walk Tree.walked Tree.victim Tree.touch Tree.changes Tree.reset Tree.shares
+    sharesWay badArgument newMaps kindOf counted isFull policies putDomain domainOf total eachSet putRow rowAt sized tagOf setOf within isPower
+    freshTables freshDomains fresh isWays inLimits asRead Lookup.matches Lookup.isHit Lookup.hitWay Row.hitAt Row.filled Row.vacant Row.fillAt
+    Row.evictAt Row.accessBy Row.access Row.flushAt Row.flush Clean.moved Clean.without Clean.wiped Clean.dropped Clean.droppedDirty Clean.cleaned bit
+    word any lowest count put reaches xor Tree.passes Tree.under Tree.holds Tree.free Tree.forcedRight Tree.walk Tree.walked Tree.victim Tree.touch
+    Tree.changes Tree.reset Tree.shares
 case-a = record { answers = refl; counts-0 = refl; counts-1 = refl }
 
 pub case-f-g : CaseFG
 unfolding answersOf finally step decided stepBy changePolicy newDomain useLine rowEffect onSet refusal refusalBy policyRefusal useRefusal sharesNode
-    sharesWay badArgument newMaps kindOf counted isFull policies putDomain domainOf total eachSet putRow rowAt sized tagOf setOf within isPower freshTables
-    freshDomains fresh isWays inLimits asRead Lookup.matches Lookup.isHit Lookup.hitWay Row.hitAt Row.filled Row.vacant Row.fillAt Row.evictAt Row.accessBy
-    Row.access Row.flushAt Row.flush Clean.moved Clean.without Clean.wiped Clean.dropped Clean.droppedDirty Clean.cleaned bit word any lowest count put reaches xor
-    Tree.passes Tree.under Tree.holds Tree.free Tree.forcedRight Tree.walk Tree.walked Tree.victim Tree.touch Tree.changes Tree.reset Tree.shares
+    sharesWay badArgument newMaps kindOf counted isFull policies putDomain domainOf total eachSet putRow rowAt sized tagOf setOf within isPower
+    freshTables freshDomains fresh isWays inLimits asRead Lookup.matches Lookup.isHit Lookup.hitWay Row.hitAt Row.filled Row.vacant Row.fillAt
+    Row.evictAt Row.accessBy Row.access Row.flushAt Row.flush Clean.moved Clean.without Clean.wiped Clean.dropped Clean.droppedDirty Clean.cleaned bit
+    word any lowest count put reaches xor Tree.passes Tree.under Tree.holds Tree.free Tree.forcedRight Tree.walk Tree.walked Tree.victim Tree.touch
+    Tree.changes Tree.reset Tree.shares
 case-f-g = record { f = refl; g = refl }

@@ -62,30 +62,12 @@ record NotEmpty : Type 0 where
   neighbour-struck : domainOf (struck .domains) 1 .counts ≡ record { hits = 0; misses = 0; evicted = 0; written = 0; flushed = 0 }
   handed-over : policies 4 (whole .domains) 0 .hit ≡ 11
 
-not-empty : NotEmpty
-unfolding answersTo ownAnswers verdicts numberOf purge keeps answersOf finally step decided stepBy changePolicy newDomain useLine rowEffect onSet refusal
-    refusalBy policyRefusal useRefusal sharesNode sharesWay badArgument newMaps kindOf counted isFull policies putDomain domainOf total eachSet putRow rowAt
-    sized tagOf setOf within isPower freshTables freshDomains fresh isWays inLimits asRead Lookup.matches Lookup.isHit Lookup.hitWay Row.hitAt Row.filled
-    Row.vacant Row.fillAt Row.evictAt Row.accessBy Row.access Row.flushAt Row.flush Clean.moved Clean.without Clean.wiped Clean.dropped Clean.droppedDirty Clean.cleaned
-    bit word any lowest count put reaches xor Tree.passes Tree.under Tree.holds Tree.free Tree.forcedRight Tree.walk Tree.walked Tree.victim Tree.touch
-    Tree.changes Tree.reset Tree.shares
-not-empty = record { dropped = (refl, refl); works = refl; neighbour = refl; neighbour-struck = refl; handed-over = refl }
-
 -- ---- not slack: what the theorem leaves out does differ
 
 -- a way outside the domain's hit map: way 2 is valid in one run alone
 record OtherWays : Type 0 where
   run : bit (rowAt 4 0 (whole .tables) .valid) 2 ≡ true
   purged : bit (rowAt 4 0 (struck .tables) .valid) 2 ≡ false
-
-other-ways : OtherWays
-unfolding answersTo ownAnswers verdicts numberOf purge keeps answersOf finally step decided stepBy changePolicy newDomain useLine rowEffect onSet refusal
-    refusalBy policyRefusal useRefusal sharesNode sharesWay badArgument newMaps kindOf counted isFull policies putDomain domainOf total eachSet putRow rowAt
-    sized tagOf setOf within isPower freshTables freshDomains fresh isWays inLimits asRead Lookup.matches Lookup.isHit Lookup.hitWay Row.hitAt Row.filled
-    Row.vacant Row.fillAt Row.evictAt Row.accessBy Row.access Row.flushAt Row.flush Clean.moved Clean.without Clean.wiped Clean.dropped Clean.droppedDirty Clean.cleaned
-    bit word any lowest count put reaches xor Tree.passes Tree.under Tree.holds Tree.free Tree.forcedRight Tree.walk Tree.walked Tree.victim Tree.touch
-    Tree.changes Tree.reset Tree.shares
-other-ways = record { run = refl; purged = refl }
 
 -- replacement bits that are not its own: node 2, free for domain 1 alone, differs
 abbrev brief : List Command
@@ -95,15 +77,6 @@ record OtherBits : Type 0 where
   run : bit (rowAt 4 0 (finally small brief (fresh small) .tables) .word) 2 ≡ true
   purged : bit (rowAt 4 0 (finally small (purge 0 brief) (fresh small) .tables) .word) 2 ≡ false
 
-other-bits : OtherBits
-unfolding answersTo ownAnswers verdicts numberOf purge keeps answersOf finally step decided stepBy changePolicy newDomain useLine rowEffect onSet refusal
-    refusalBy policyRefusal useRefusal sharesNode sharesWay badArgument newMaps kindOf counted isFull policies putDomain domainOf total eachSet putRow rowAt
-    sized tagOf setOf within isPower freshTables freshDomains fresh isWays inLimits asRead Lookup.matches Lookup.isHit Lookup.hitWay Row.hitAt Row.filled
-    Row.vacant Row.fillAt Row.evictAt Row.accessBy Row.access Row.flushAt Row.flush Clean.moved Clean.without Clean.wiped Clean.dropped Clean.droppedDirty Clean.cleaned
-    bit word any lowest count put reaches xor Tree.passes Tree.under Tree.holds Tree.free Tree.forcedRight Tree.walk Tree.walked Tree.victim Tree.touch
-    Tree.changes Tree.reset Tree.shares
-other-bits = record { run = refl; purged = refl }
-
 -- what a neighbour's change of policy reports as dropped: one line in one run, none in the other
 abbrev shrink : List Command
 shrink = does 1 16 (both 12) ∷ does 1 2 0 ∷ does 1 16 0 ∷ []
@@ -112,11 +85,31 @@ record OtherDrops : Type 0 where
   run : answersOf small shrink (fresh small) ≡ (6 ∷ 0 ∷ 0 ∷ []) ∷ (1 ∷ 2 ∷ []) ∷ (6 ∷ 1 ∷ 1 ∷ []) ∷ []
   purged : answersOf small (purge 0 shrink) (fresh small) ≡ (6 ∷ 0 ∷ 0 ∷ []) ∷ (6 ∷ 0 ∷ 0 ∷ []) ∷ []
 
+-- ---- both runs, computed
+
+-- each of these holds by the definitions alone
+computed : NotEmpty × OtherWays × OtherBits × OtherDrops
+unfolding answersTo ownAnswers verdicts numberOf purge keeps answersOf finally step decided stepBy changePolicy newDomain useLine rowEffect onSet
+    refusal refusalBy policyRefusal useRefusal sharesNode sharesWay badArgument newMaps kindOf counted isFull policies putDomain domainOf total
+    eachSet putRow rowAt sized tagOf setOf within isPower freshTables freshDomains fresh isWays inLimits asRead Lookup.matches Lookup.isHit
+    Lookup.hitWay Row.hitAt Row.filled Row.vacant Row.fillAt Row.evictAt Row.accessBy Row.access Row.flushAt Row.flush Clean.moved Clean.without
+    Clean.wiped Clean.dropped Clean.droppedDirty Clean.cleaned bit word any lowest count put reaches xor Tree.passes Tree.under Tree.holds Tree.free
+    Tree.forcedRight Tree.walk Tree.walked Tree.victim Tree.touch Tree.changes Tree.reset Tree.shares
+computed = (
+  record { dropped = (refl, refl); works = refl; neighbour = refl; neighbour-struck = refl; handed-over = refl },
+  record { run = refl; purged = refl },
+  record { run = refl; purged = refl },
+  record { run = refl; purged = refl },
+)
+
+not-empty : NotEmpty
+not-empty = computed .0
+
+other-ways : OtherWays
+other-ways = computed .1
+
+other-bits : OtherBits
+other-bits = computed .2
+
 other-drops : OtherDrops
-unfolding answersTo ownAnswers verdicts numberOf purge keeps answersOf finally step decided stepBy changePolicy newDomain useLine rowEffect onSet refusal
-    refusalBy policyRefusal useRefusal sharesNode sharesWay badArgument newMaps kindOf counted isFull policies putDomain domainOf total eachSet putRow rowAt
-    sized tagOf setOf within isPower freshTables freshDomains fresh isWays inLimits asRead Lookup.matches Lookup.isHit Lookup.hitWay Row.hitAt Row.filled
-    Row.vacant Row.fillAt Row.evictAt Row.accessBy Row.access Row.flushAt Row.flush Clean.moved Clean.without Clean.wiped Clean.dropped Clean.droppedDirty Clean.cleaned
-    bit word any lowest count put reaches xor Tree.passes Tree.under Tree.holds Tree.free Tree.forcedRight Tree.walk Tree.walked Tree.victim Tree.touch
-    Tree.changes Tree.reset Tree.shares
-other-drops = record { run = refl; purged = refl }
+other-drops = computed .3

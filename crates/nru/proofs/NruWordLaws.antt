@@ -54,6 +54,19 @@ no-word map x h k e =
     from-bits 64 (or-lt 64 x map k (lt-of-lt-of-le h (lit≤ tt)))
     (λ i l. rw (ones-any map x h ∙ ap (λ (n : ℕ). not (eqb n 0)) e) (bit-or x map i ∙ or-comm (bit x i) (bit map i)))
 
+-- the choice: `w` is the lowest of the ways that the call looks at
+module _ (map x : ℕ) (h : map < 2 ^ 16) (k : x < 2 ^ 64) where
+  chosen : {w y : ℕ} → w ≡ victim 16 (bit map) (bit x) → y ≡ word 64 (before 16 (bit map) (bit x)) → record { way = w; word = y } ≡ victimOf x map
+  unfolding victimOf
+  chosen e f = ap₂ (λ (v z : ℕ). record { way = v; word = z }) e f
+
+  pub some-chosen : {w : ℕ} → (bitAnd map (x % 65536) ≡ 0 → ⊥) → w ≡ lowest 16 (bit (bitAnd map (x % 65536)))
+      → record { way = w; word = x } ≡ victimOf x map
+  some-chosen e is = chosen (is ∙ some-way map x h e) (some-word map x h k e)
+
+  pub none-chosen : {w : ℕ} → bitAnd map (x % 65536) ≡ 0 → w ≡ lowest 16 (bit map) → record { way = w; word = bitOr x map } ≡ victimOf x map
+  none-chosen e is = chosen (is ∙ no-way map x h e) (no-word map x h k e)
+
 -- ---- the number of ways
 
 module _ (W map x : ℕ) (small : W ≤ 16) (h : map < 2 ^ W) where

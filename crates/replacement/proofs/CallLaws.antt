@@ -116,6 +116,31 @@ module _ (W : ℕ) (w : isWays W ≡ true) where
   pub nru-fresh : Nru.freshOf W ≡ nru W .fresh
   nru-fresh = NruLaws.fresh-word W (NumberLaws.sized W w .most)
 
+-- ---- a call that is not refused, by what the rule's crate gave
+
+-- the victim
+module _ (W rule x map : ℕ) (limits : inLimits W rule ≡ true) (reach : reaches W map ≡ false) (some : any 16 (bit map) ≡ true) where
+  pub victim-by-tree : {way : ℕ} → rule ≡ 0 → way ≡ Tree.victimOf W x map → record { answer = 0 ∷ way ∷ []; word = x } ≡ victimOf W rule x map
+  victim-by-tree z e =
+      let under : tree W ≡ ruleOf rule W = is-tree W rule limits z in
+      victim-given W rule x map limits reach some (e ∙ tree-victim W (ways W rule limits) x map reach ∙ ap (λ (R : Rule). R .victim map x) under)
+      (ap (λ (R : Rule). R .before map x) under)
+
+  pub victim-by-nru : {r : Choice} → map < 2 ^ 16 → (rule ≡ 0 → ⊥) → r ≡ Nru.victimOf x map
+      → record { answer = 0 ∷ r .way ∷ []; word = r .word } ≡ victimOf W rule x map
+  victim-by-nru h n e =
+      let under : nru W ≡ ruleOf rule W = is-nru W rule limits n in
+      let choice = e ∙ nru-victim W (ways W rule limits) x map h reach some in
+      victim-given W rule x map limits reach some (ap (λ (r : Choice). r .way) choice ∙ ap (λ (R : Rule). R .victim map x) under)
+      (ap (λ (r : Choice). r .word) choice ∙ ap (λ (R : Rule). R .before map x) under)
+
+-- whether a node is shared, where the test of it found `b`
+pub shares-by-tree : (W rule m n : ℕ) {s b : Bool} → inLimits W rule ≡ true → reaches W (bitOr m n) ≡ false → rule ≡ 0 → s ≡ Tree.sharesOf W m n → s ≡ b
+    → cond b 9 0 ∷ [] ≡ sharesOf W rule m n
+shares-by-tree W rule m n limits reach z e k =
+    shares-given W rule m n limits reach
+    (sym k ∙ e ∙ tree-shares W (ways W rule limits) m n reach ∙ ap (λ (R : Rule). R .shares m n) (is-tree W rule limits z))
+
 -- ---- a change of fill map, worked out first and then done, is the rule's
 
 pub change-resets : (W rule x old new : ℕ) → old < 2 ^ 16 → new < 2 ^ 16 → changeBy (changeOf W rule old new) x ≡ resetOf W rule x old new .word

@@ -115,6 +115,9 @@ module _ {W : ℕ} {R : Rule} (I : Isolates W R) (few : W ≤ 16) (p : Maps) (c 
   -- ---- the ways that an access or a flush works on are the domain's
 
   module _ (r : Row) (long : length (r .tags) ≡ W) where
+    own-hit : isHit r (p .hit) tag ≡ true → bit (p .hit) (hitWay r (p .hit) tag) ≡ true
+    own-hit = hit-own (r .tags) (r .valid) (p .hit) tag
+
     vacant-own : any (ways r) (vacant r (p .fill)) ≡ true → bit (p .hit) (lowest (ways r) (vacant r (p .fill))) ≡ true
     unfolding vacant
     vacant-own e =
@@ -133,7 +136,7 @@ module _ {W : ℕ} {R : Rule} (I : Isolates W R) (few : W ≤ 16) (p : Maps) (c 
     unfolding fillAt evictAt
     access-leaves store v h b =
         access-cases R p tag store r r (λ e f. SameLine (e .row) r v) refl refl refl
-        (λ t. hit-other R (p .fill) store (hitWay r (p .hit) tag) r v low (apart (hitWay r (p .hit) tag) v (hit-own (r .tags) (r .valid) (p .hit) tag t) b))
+        (λ t. hit-other R (p .fill) store (hitWay r (p .hit) tag) r v low (apart (hitWay r (p .hit) tag) v (own-hit t) b))
         (same-line r v)
         (λ t. filled-other R (p .fill) tag store (lowest (ways r) (vacant r (p .fill))) (r .word) r v low
         (apart (lowest (ways r) (vacant r (p .fill))) v (vacant-own t) b))
@@ -159,8 +162,8 @@ module _ {W : ℕ} {R : Rule} (I : Isolates W R) (few : W ≤ 16) (p : Maps) (c 
     flush-leaves v h b =
         cases (isHit r (p .hit) tag)
         (λ t. rw t (record {
-          valid = put-other (hitWay r (p .hit) tag) false (r .valid) v (lt-of-lt-of-le h few) (apart (hitWay r (p .hit) tag) v (hit-own (r .tags) (r .valid) (p .hit) tag t) b);
-          dirty = put-other (hitWay r (p .hit) tag) false (r .dirty) v (lt-of-lt-of-le h few) (apart (hitWay r (p .hit) tag) v (hit-own (r .tags) (r .valid) (p .hit) tag t) b);
+          valid = put-other (hitWay r (p .hit) tag) false (r .valid) v (lt-of-lt-of-le h few) (apart (hitWay r (p .hit) tag) v (own-hit t) b);
+          dirty = put-other (hitWay r (p .hit) tag) false (r .dirty) v (lt-of-lt-of-le h few) (apart (hitWay r (p .hit) tag) v (own-hit t) b);
           tag = refl;
         }))
         (λ t. rw t (same-line r v))
@@ -253,7 +256,7 @@ module _ {W : ℕ} {R : Rule} (I : Isolates W R) (few : W ≤ 16) (p : Maps) (c 
     unfolding flush flushAt
     flush-answer =
         rw (← hit-same, ← way-same)
-        (cases (isHit r (p .hit) tag) (λ t. rw t (ap (Flush (hitWay r (p .hit) tag)) (s .lines (hitWay r (p .hit) tag) (hit-own (r .tags) (r .valid) (p .hit) tag t) .dirty)))
+        (cases (isHit r (p .hit) tag) (λ t. rw t (ap (Flush (hitWay r (p .hit) tag)) (s .lines (hitWay r (p .hit) tag) (own-hit r long-r t) .dirty)))
         (λ t. rw t))
 
     pub flush-agrees : (v : ℕ) → v < W → SameLine r q v → SameLine (flush p tag r .row) (flush p tag q .row) v

@@ -4,7 +4,7 @@ use mathlib.Core.List.{List, [], _∷_, _++_, map, append-assoc}
 use mathlib.Core.Logic.{_⊎_, inl, inr}
 use Prim.Native.Nat.{ℕ, zero, suc, _+_, _-_, _*_, _≤_, _<_}
 use native.Mathlib.Omega.{arith}
-use lib.Dec.{eqb}
+use lib.Dec.{T, eqb, leb, lit≤}
 use lib.ListN.{length, take, length-take}
 use borrow.Author.Tests.{eq-eqb, ne-eqb}
 use denote.Enum.Declared.{tagOf}
@@ -43,6 +43,11 @@ pub said-line : {p : Phrase} {fields : List (List ℕ)} {r : ℕ} {last : List �
     → writtenOf r last ≡ append (line (decimal place ∷ take (p .1) (p .0) ∷ map decimal (take (p .3) (p .2)))) w
     → writtenOf r last ≡ append (line (decimal place ∷ fields)) w
 said-line place w s e = e ∙ ap (λ (fields : List (List ℕ)). append (line (decimal place ∷ fields)) w) (s .is)
+
+-- A phrase says the fields that it is equal to, where its two lengths are within their lists and within the longest: each is a test of numbers.
+pub says : {p : Phrase} {fields : List (List ℕ)} → T (leb (p .1) (length (p .0))) → T (leb (p .1) 7) → T (leb (p .3) (length (p .2))) → T (leb (p .3) 3)
+    → take (p .1) (p .0) ∷ map decimal (take (p .3) (p .2)) ≡ fields → Says p fields
+says inside short listed few is = record { is = is; inside = lit≤ inside; short = lit≤ short; listed = lit≤ listed; few = lit≤ few }
 
 -- An answer without fields is its word's number alone.
 pub bare : (a : Answer) (n : ℕ) → tagOf the-type a ≡ n → (n ≡ 3) ⊎ (n ≡ 5) → answerOf a ≡ n ∷ []

@@ -5,5 +5,6 @@ pub mod LevelLaws
 pub mod PathLaws
 pub mod WalkLaws
 pub mod TreeWordLaws
+pub mod CallLaws
 pub mod HalfLaws
 pub mod WorkedCases

@@ -1,9 +1,12 @@
 -- `replacement::conflict` meets its contract.
-use mathlib.Core.Path.{sym, ap, _∙_}
+use mathlib.Core.Path.{_≡_, sym, ap, _∙_}
+use mathlib.Core.Bool.{true, false}
+use lib.Bits.{bitOr}
 use borrow.Author.Tests.{not-true}
+use Rattle.waymap.specs.Bits.{reaches}
 use Rattle.replacement.specs.Rule.{Rule}
-use Rattle.replacement.specs.Calls.{sharesOf}
-use Rattle.replacement.proofs.CallLaws.{ways, either-reach, is-tree, is-nru, tree-shares, shares-given}
+use Rattle.replacement.specs.Calls.{inLimits, sharesOf}
+use Rattle.replacement.proofs.CallLaws.{either-reach, is-nru, shares-given, shares-by-tree}
 use borrow.Author.Needs.{needs}
 use Rattle.replacement.proofs.conflict.Statement.{statement}
 use Rattle.replacement.proofs.conflict.Tie as tie
@@ -28,34 +31,35 @@ returns-2 c =
           ∙ sym (c .before .fits2 .ensures) ∙ c .if2 .left,
     )
 
+-- Behind its two tests no call is refused.
+module _ (c : tie.Then2) where
+  abbrev entry : tie.Start
+  entry = c .before .before .before .before
+
+  limits : inLimits (entry .args .ways) (entry .args .rule) ≡ true
+  limits = sym (c .before .before .before .in-limits .ensures) ∙ c .before .before .if1 .taken
+
+  reach : reaches (entry .args .ways) (bitOr (entry .args .map) (entry .args .other)) ≡ false
+  reach = not-true _ (sym (c .before .fits2 .ensures) ∙ c .if2 .taken)
+
 returns-3 : tie.Need-returns-3
 returns-3 c =
-    let a = c .before .before .before .before .before .args in
-    let limits = sym (c .before .before .before .before .in-limits .ensures) ∙ c .before .before .before .if1 .taken in
-    let reach = not-true _ (sym (c .before .before .fits2 .ensures) ∙ c .before .if2 .taken) in
-    shares-given (a .ways) (a .rule) (a .map) (a .other) limits reach
-    (ap (λ (R : Rule). R .shares (a .map) (a .other)) (is-nru (a .ways) (a .rule) limits (c .if3 .taken)))
+    let a = entry (c .before) .args in
+    shares-given (a .ways) (a .rule) (a .map) (a .other) (limits (c .before)) (reach (c .before))
+    (ap (λ (R : Rule). R .shares (a .map) (a .other)) (is-nru (a .ways) (a .rule) (limits (c .before)) (c .if3 .taken)))
 
 shares-requires : tie.Need-shares-requires
 shares-requires c κs = search needs
 
 returns-4 : tie.Need-returns-4
 returns-4 c =
-    let a = c .before .before .before .before .before .before .before .args in
-    let limits = sym (c .before .before .before .before .before .before .in-limits .ensures) ∙ c .before .before .before .before .before .if1 .taken in
-    let reach = not-true _ (sym (c .before .before .before .before .fits2 .ensures) ∙ c .before .before .before .if2 .taken) in
-    shares-given (a .ways) (a .rule) (a .map) (a .other) limits reach
-    (sym (c .if4 .taken) ∙ c .before .shares .ensures ∙ tree-shares (a .ways) (ways (a .ways) (a .rule) limits) (a .map) (a .other) reach
-    ∙ ap (λ (R : Rule). R .shares (a .map) (a .other)) (is-tree (a .ways) (a .rule) limits (c .before .before .if3 .left)))
+    let t = c .before .before .before in
+    shares-by-tree _ _ _ _ (limits t) (reach t) (c .before .before .if3 .left) (c .before .shares .ensures) (c .if4 .taken)
 
 returns-5 : tie.Need-returns-5
 returns-5 c =
-    let a = c .before .before .before .before .before .before .before .args in
-    let limits = sym (c .before .before .before .before .before .before .in-limits .ensures) ∙ c .before .before .before .before .before .if1 .taken in
-    let reach = not-true _ (sym (c .before .before .before .before .fits2 .ensures) ∙ c .before .before .before .if2 .taken) in
-    shares-given (a .ways) (a .rule) (a .map) (a .other) limits reach
-    (sym (c .if4 .left) ∙ c .before .shares .ensures ∙ tree-shares (a .ways) (ways (a .ways) (a .rule) limits) (a .map) (a .other) reach
-    ∙ ap (λ (R : Rule). R .shares (a .map) (a .other)) (is-tree (a .ways) (a .rule) limits (c .before .before .if3 .left)))
+    let t = c .before .before .before in
+    shares-by-tree _ _ _ _ (limits t) (reach t) (c .before .before .if3 .left) (c .before .shares .ensures) (c .if4 .left)
 
 pub conflict-spec : {M : Type 1} → statement M
 conflict-spec =

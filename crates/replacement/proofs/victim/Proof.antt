@@ -1,12 +1,11 @@
 -- `replacement::victim` meets its contract.
-use mathlib.Core.Path.{sym, ap, _∙_}
-use mathlib.Core.Bool.{and-false}
+use mathlib.Core.Path.{_≡_, sym, _∙_}
+use mathlib.Core.Bool.{true, false, and-false}
 use borrow.Author.Tests.{not-true}
+use Rattle.waymap.specs.Bits.{bit, any, reaches}
 use Rattle.waymap.proofs.MapLaws.{none-empty}
-use Rattle.nru.specs.declared.Choice.{Choice}
-use Rattle.replacement.specs.Rule.{Rule}
-use Rattle.replacement.specs.Calls.{victimOf}
-use Rattle.replacement.proofs.CallLaws.{ways, some-way, is-tree, is-nru, tree-victim, nru-victim, victim-given}
+use Rattle.replacement.specs.Calls.{inLimits, victimOf}
+use Rattle.replacement.proofs.CallLaws.{some-way, victim-by-tree, victim-by-nru}
 use borrow.Author.Needs.{needs}
 use Rattle.replacement.proofs.victim.Statement.{statement}
 use Rattle.replacement.proofs.victim.Tie as tie
@@ -34,36 +33,35 @@ returns-3 c = rw (
       ∙ c .if3 .left,
 )
 
+-- Behind its three tests no call is refused.
+module _ (c : tie.Then3) where
+  abbrev entry : tie.Start
+  entry = c .before .before .before .before .before
+
+  limits : inLimits (entry .args .ways) (entry .args .rule) ≡ true
+  limits = sym (c .before .before .before .before .in-limits .ensures) ∙ c .before .before .before .if1 .taken
+
+  reach : reaches (entry .args .ways) (entry .args .map) ≡ false
+  reach = not-true _ (sym (c .before .fits2 .ensures) ∙ c .if3 .taken)
+
+  some : any 16 (bit (entry .args .map)) ≡ true
+  some = some-way (entry .args .map) (entry .fits .map .fits) (c .before .before .if2 .left)
+
 victim-requires : tie.Need-victim-requires
 victim-requires c κs = search needs
 
 returns-4 : tie.Need-returns-4
 returns-4 c =
-    let entry = c .before .before .before .before .before .before .before in
-    let a = entry .args in
-    let limits = sym (c .before .before .before .before .before .before .in-limits .ensures) ∙ c .before .before .before .before .before .if1 .taken in
-    let reach = not-true _ (sym (c .before .before .before .fits2 .ensures) ∙ c .before .before .if3 .taken) in
-    let rule = is-tree (a .ways) (a .rule) limits (c .before .if4 .taken) in
-    victim-given (a .ways) (a .rule) (a .word) (a .map) limits reach (some-way (a .map) (entry .fits .map .fits) (c .before .before .before .before .if2 .left))
-    (c .victim .ensures ∙ tree-victim (a .ways) (ways (a .ways) (a .rule) limits) (a .word) (a .map) reach
-    ∙ ap (λ (R : Rule). R .victim (a .map) (a .word)) rule)
-    (ap (λ (R : Rule). R .before (a .map) (a .word)) rule)
+    let t = c .before .before in
+    victim-by-tree _ _ _ _ (limits t) (reach t) (some t) (c .before .if4 .taken) (c .victim .ensures)
 
 victim-requires-2 : tie.Need-victim-requires-2
 victim-requires-2 c κs = search needs
 
 returns-5 : tie.Need-returns-5
 returns-5 c =
-    let entry = c .before .before .before .before .before .before .before in
-    let a = entry .args in
-    let limits = sym (c .before .before .before .before .before .before .in-limits .ensures) ∙ c .before .before .before .before .before .if1 .taken in
-    let reach = not-true _ (sym (c .before .before .before .fits2 .ensures) ∙ c .before .before .if3 .taken) in
-    let some = some-way (a .map) (entry .fits .map .fits) (c .before .before .before .before .if2 .left) in
-    let rule = is-nru (a .ways) (a .rule) limits (c .before .if4 .left) in
-    let choice = c .victim2 .ensures ∙ nru-victim (a .ways) (ways (a .ways) (a .rule) limits) (a .word) (a .map) (entry .fits .map .fits) reach some in
-    victim-given (a .ways) (a .rule) (a .word) (a .map) limits reach some
-    (ap (λ (x : Choice). x .way) choice ∙ ap (λ (R : Rule). R .victim (a .map) (a .word)) rule)
-    (ap (λ (x : Choice). x .word) choice ∙ ap (λ (R : Rule). R .before (a .map) (a .word)) rule)
+    let t = c .before .before in
+    victim-by-nru _ _ _ _ (limits t) (reach t) (some t) (entry t .fits .map .fits) (c .before .if4 .left) (c .victim2 .ensures)
 
 pub victim-spec : {M : Type 1} → statement M
 victim-spec =

@@ -2,9 +2,10 @@
 use mathlib.Core.Path.{sym, _∙_}
 use native.Mathlib.Omega.{arith}
 use Rattle.waymap.specs.Bits.{bit}
-use Rattle.waymap.proofs.NumberLaws.{takes-sized, takes-below}
+use Rattle.waymap.proofs.NumberLaws.{takes-sized}
 use Rattle.tree.specs.Calls.{victimOf}
 use Rattle.tree.proofs.TreeWordLaws.{victim-word}
+use Rattle.tree.proofs.CallLaws.{taken}
 use borrow.Author.Needs.{needs}
 use Rattle.tree.proofs.victim.Statement.{statement}
 use Rattle.tree.proofs.victim.Tie as tie
@@ -17,10 +18,7 @@ unfolding victimOf
 returns c = rw (sym (c .before .takes .ensures) ∙ c .if1 .left)
 
 nodes-of-requires : tie.Need-nodes-of-requires
-nodes-of-requires c κs =
-    let entry = c .before .before in
-    let within = sym (c .before .takes .ensures) ∙ c .if1 .taken in
-    (takes-sized (entry .args .ways) (entry .args .map) within, takes-below (entry .args .ways) (entry .args .map) within (entry .fits .map .fits))
+nodes-of-requires c κs = taken _ _ (c .before .takes .ensures) (c .if1 .taken) (c .before .before .fits .map .fits)
 
 sub-all : tie.Need-sub-all
 sub-all c =

@@ -36,16 +36,16 @@ after-change-requires : tie.Need-after-change-requires
 after-change-requires c κs = search needs
 
 same-length : tie.Need-same-length
-same-length c = search needs
+same-length c = c .before .before .before .before .before .before .before .before .before .sweep-sets .kept .1 .0
 
 same-length-2 : tie.Need-same-length-2
-same-length-2 c = search needs
+same-length-2 c = c .before .before .before .before .before .before .before .before .before .sweep-sets .kept .1 .1 .0
 
 same-length-3 : tie.Need-same-length-3
-same-length-3 c = search needs
+same-length-3 c = c .before .before .before .before .before .before .before .before .before .sweep-sets .kept .1 .1 .1 .0
 
 same-length-4 : tie.Need-same-length-4
-same-length-4 c = search needs
+same-length-4 c = c .before .before .before .before .before .before .before .before .before .sweep-sets .kept .1 .1 .1 .1 .0
 
 returns-2 : tie.Need-returns-2
 returns-2 c =
@@ -55,7 +55,8 @@ returns-2 c =
     let entry = asked .before .before .before .before .before in
     let last = swept .sweep-sets .last .1 in
     policy-done (entry .args .g) (entry .args .own) (entry .args .policies) (entry .args .domain) (entry .args .argument) (lent entry)
-    (asked .policy-refusal .ensures) {v = tablesOf (last .0) (last .1 .0) (last .1 .1 .0) (last .1 .1 .1 .0)} (entry .pre) (worked .before .before .if1 .left) (worked .before .new-maps .ensures) (worked .sweep-of .ensures)
+    (asked .policy-refusal .ensures) {v = tablesOf (last .0) (last .1 .0) (last .1 .1 .0) (last .1 .1 .1 .0)}
+    (entry .pre) (worked .before .before .if1 .left) (worked .before .new-maps .ensures) (worked .sweep-of .ensures)
     (swept .sweep-sets .ensures) (c .after-change .ensures)
 
 pub policy-spec : {M : Type 1} → statement M

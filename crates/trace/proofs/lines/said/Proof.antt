@@ -1,10 +1,9 @@
 -- `trace::lines::said` meets its contract.
 use mathlib.Core.Logic.{inl, inr}
 use mathlib.Core.Path.{refl}
-use lib.Dec.{lit≤}
 use borrow.Author.Needs.{needs}
 use Rattle.listing.specs.Listing.{told}
-use Rattle.trace.proofs.LineLaws.{bare}
+use Rattle.trace.proofs.LineLaws.{says, bare}
 use Rattle.trace.proofs.lines.said.Statement.{statement}
 use Rattle.trace.proofs.lines.said.Tie as tie
 
@@ -40,39 +39,35 @@ enum-known-answer-6 c = search needs
 
 returns : tie.Need-returns
 unfolding told
-returns c = record { is = rw (c .before .before .before .answer .given .1); inside = lit≤ tt; short = lit≤ tt; listed = lit≤ tt; few = lit≤ tt }
+returns c = says tt tt tt tt (rw (c .before .before .before .answer .given .1))
 
 returns-2 : tie.Need-returns-2
 unfolding told
-returns-2 c = record { is = rw (c .before .before .before .answer2 .given .1); inside = lit≤ tt; short = lit≤ tt; listed = lit≤ tt; few = lit≤ tt }
+returns-2 c = says tt tt tt tt (rw (c .before .before .before .answer2 .given .1))
 
 returns-3 : tie.Need-returns-3
 unfolding told
-returns-3 c = record { is = rw (c .before .before .before .answer3 .given .1); inside = lit≤ tt; short = lit≤ tt; listed = lit≤ tt; few = lit≤ tt }
+returns-3 c = says tt tt tt tt (rw (c .before .before .before .answer3 .given .1))
 
 returns-4 : tie.Need-returns-4
 unfolding told
-returns-4 c =
-    let is = bare (c .before .before .before .before .args .answer) 3 (c .before .before .before .match .keys4) (inl refl) in
-    record { is = rw is; inside = lit≤ tt; short = lit≤ tt; listed = lit≤ tt; few = lit≤ tt }
+returns-4 c = says tt tt tt tt (rw (bare (c .before .before .before .before .args .answer) 3 (c .before .before .before .match .keys4) (inl refl)))
 
 returns-5 : tie.Need-returns-5
 unfolding told
-returns-5 c = record { is = rw (c .before .before .before .answer4 .given .1); inside = lit≤ tt; short = lit≤ tt; listed = lit≤ tt; few = lit≤ tt }
+returns-5 c = says tt tt tt tt (rw (c .before .before .before .answer4 .given .1))
 
 returns-6 : tie.Need-returns-6
 unfolding told
-returns-6 c =
-    let is = bare (c .before .before .before .before .args .answer) 5 (c .before .before .before .match .keys6) (inr refl) in
-    record { is = rw is; inside = lit≤ tt; short = lit≤ tt; listed = lit≤ tt; few = lit≤ tt }
+returns-6 c = says tt tt tt tt (rw (bare (c .before .before .before .before .args .answer) 5 (c .before .before .before .match .keys6) (inr refl)))
 
 returns-7 : tie.Need-returns-7
 unfolding told
-returns-7 c = record { is = rw (c .before .before .before .answer5 .given .1); inside = lit≤ tt; short = lit≤ tt; listed = lit≤ tt; few = lit≤ tt }
+returns-7 c = says tt tt tt tt (rw (c .before .before .before .answer5 .given .1))
 
 returns-8 : tie.Need-returns-8
 unfolding told
-returns-8 c = record { is = rw (c .before .before .before .answer6 .given .1); inside = lit≤ tt; short = lit≤ tt; listed = lit≤ tt; few = lit≤ tt }
+returns-8 c = says tt tt tt tt (rw (c .before .before .before .answer6 .given .1))
 
 pub said-spec : {M : Type 1} → statement M
 said-spec =
