@@ -3,4 +3,5 @@ pub mod Geometry
 pub mod Tables
 pub mod Step
 pub mod Run
+pub mod Fresh
 pub mod Inside

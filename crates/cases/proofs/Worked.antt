@@ -20,7 +20,7 @@ use Rattle.cache.specs.Geometry.{setOf, tagOf}
 use Rattle.cache.specs.Tables.{rowAt, putRow, eachSet, total}
 use Rattle.cache.specs.Step.{onSet, rowEffect, useLine, changePolicy, stepBy, decided, step}
 use Rattle.cache.specs.Run.{answersOf}
-use Rattle.fresh.specs.Fresh.{freshTables, freshDomains, fresh}
+use Rattle.cache.specs.Fresh.{freshTables, freshDomains, fresh}
 use Rattle.cases.specs.Cases.{Case, cases}
 
 pub worked : (u : ℕ) → map (λ (c : Case). c .given) (cases u) ≡ map (λ (c : Case). c .printed) (cases u)

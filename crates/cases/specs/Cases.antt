@@ -9,7 +9,7 @@ use Rattle.replacement.specs.Rule.{Rule, tree, nru}
 use Rattle.geometry.specs.declared.Geometry.{Geometry}
 use Rattle.command.specs.Command.{Command}
 use Rattle.cache.specs.Run.{answersOf}
-use Rattle.fresh.specs.Fresh.{fresh}
+use Rattle.cache.specs.Fresh.{fresh}
 
 pub record Case : Type 0 where
   pub given : List ℕ

@@ -15,7 +15,8 @@ use Rattle.geometry.specs.Geometry.{within, sized, sizesOf}
 use Rattle.geometry.specs.declared.Geometry.{Geometry}
 use Rattle.geometry.proofs.GeometryLaws.{sizes-passed}
 use Rattle.cache.specs.Tables.{Tables, lengths}
-use Rattle.fresh.specs.Fresh.{freshTables, Made, madeOf, freshOf}
+use Rattle.cache.specs.Fresh.{freshTables}
+use Rattle.fresh.specs.Calls.{Made, madeOf, freshOf}
 use Rattle.cache.specs.Step.{tablesOf}
 use Rattle.cache.specs.Inside.{Shaped}
 use Rattle.cache.proofs.StepLaws.{shaped}

@@ -1,2 +1,2 @@
--- A fresh cache: document 01, "Geometry and tables".
-pub mod Fresh
+-- The calls that make a fresh cache.
+pub mod Calls

@@ -7,7 +7,8 @@ use domains::Domains;
 use geometry::Geometry;
 ghost use mathlib.Core.Path.{_≡_};
 ghost use Rattle.cache.specs.Step.{tablesOf};
-ghost use Rattle.fresh.specs.Fresh.{freshDomains, madeOf, freshOf};
+ghost use Rattle.cache.specs.Fresh.{freshDomains};
+ghost use Rattle.fresh.specs.Calls.{madeOf, freshOf};
 
 // The tables become those of a fresh cache. The answer is 0, or 1 or 2 as for a step, and then nothing changes.
 pub fn fresh_tables(

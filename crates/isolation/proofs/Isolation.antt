@@ -23,7 +23,7 @@ use Rattle.cache.specs.Tables.{rowAt}
 use Rattle.cache.specs.Step.{State}
 use Rattle.command.specs.Command.{Command}
 use Rattle.cache.specs.Run.{stepOn, answersOf, finally}
-use Rattle.fresh.specs.Fresh.{freshTables, freshDomains, fresh}
+use Rattle.cache.specs.Fresh.{freshTables, freshDomains, fresh}
 use Rattle.purge.specs.Purge.{belongs, keeps, purge}
 use Rattle.isolation.specs.StruckOut.{answersTo, ownAnswers, verdicts, SameTo, StruckOut}
 use Rattle.isolation.proofs.Relation.{Whole, Related}

@@ -23,7 +23,7 @@ use Rattle.cache.specs.Tables.{rowAt, putRow, eachSet, total}
 use Rattle.cache.specs.Step.{State, onSet, rowEffect, useLine, changePolicy, stepBy, decided, step}
 use Rattle.command.specs.Command.{Command}
 use Rattle.cache.specs.Run.{answersOf, finally}
-use Rattle.fresh.specs.Fresh.{freshTables, freshDomains, fresh}
+use Rattle.cache.specs.Fresh.{freshTables, freshDomains, fresh}
 use Rattle.purge.specs.Purge.{keeps, purge}
 use Rattle.isolation.specs.StruckOut.{answersTo, ownAnswers, numberOf, verdicts}
 

@@ -12,7 +12,7 @@ use Rattle.cache.specs.Tables.{rowAt}
 use Rattle.cache.specs.Step.{State}
 use Rattle.command.specs.Command.{Command}
 use Rattle.cache.specs.Run.{answersOf, finally}
-use Rattle.fresh.specs.Fresh.{fresh}
+use Rattle.cache.specs.Fresh.{fresh}
 use Rattle.purge.specs.Purge.{belongs, purge}
 
 -- Of the answers of a run, those to the steps that pass a test.

@@ -22,7 +22,7 @@ use Rattle.cache.specs.Tables.{rowAt, putRow, eachSet, total}
 use Rattle.cache.specs.Step.{State, onSet, rowEffect, useLine, changePolicy, stepBy, decided, step}
 use Rattle.command.specs.Command.{Command, commandOf}
 use Rattle.cache.specs.Run.{answersOf, finally}
-use Rattle.fresh.specs.Fresh.{freshTables, freshDomains, fresh}
+use Rattle.cache.specs.Fresh.{freshTables, freshDomains, fresh}
 use Rattle.tracefile.specs.File.{value, field, lastSteps, badFile, fileRefusal}
 use Rattle.listing.specs.Listing.{decimalBy, line, told, answerLines, domainLine, domainPart, domainLines, runLines, listing}
 

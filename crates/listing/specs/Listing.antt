@@ -12,7 +12,7 @@ use Rattle.domains.specs.declared.Domain.{Domain}
 use Rattle.domains.specs.declared.Domains.{Domains}
 use Rattle.command.specs.Command.{Command}
 use Rattle.cache.specs.Run.{answersOf, finally}
-use Rattle.fresh.specs.Fresh.{fresh}
+use Rattle.cache.specs.Fresh.{fresh}
 use Rattle.cache.specs.Step.{State}
 use Rattle.tracefile.specs.File.{geometryOf, stepCount, stepsOf, fileRefusal}
 

@@ -17,7 +17,7 @@ use Rattle.geometry.proofs.GeometryLaws.{limited, rows-bound}
 use Rattle.cache.specs.Tables.{Tables, lengths}
 use Rattle.cache.specs.Step.{State, tablesOf}
 use Rattle.cache.specs.Run.{finally}
-use Rattle.fresh.specs.Fresh.{fresh}
+use Rattle.cache.specs.Fresh.{fresh}
 use Rattle.tracefile.proofs.FileLaws.{Accepted, accepted}
 use Rattle.tracefile.specs.File.{geometryOf, stepCount, stepsOf, fileRefusal}
 use Rattle.listing.specs.Listing.{refusedLine, runLines, listing}

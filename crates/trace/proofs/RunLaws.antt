@@ -13,7 +13,8 @@ use Rattle.command.specs.Command.{Command}
 use Rattle.cache.specs.Run.{stepOn, answersOf, finally}
 use Rattle.cache.specs.Step.{State, Outcome}
 use Rattle.cache.specs.Tables.{Tables, lengths}
-use Rattle.fresh.specs.Fresh.{freshTables, freshDomains, fresh, Made, madeOf, freshOf}
+use Rattle.cache.specs.Fresh.{freshTables, freshDomains, fresh}
+use Rattle.fresh.specs.Calls.{Made, madeOf, freshOf}
 use Rattle.tracefile.specs.File.{commandAt, lastSteps}
 use Rattle.listing.specs.Listing.{decimal, line, told, answerLines, headLine, domainLines, runLines}
 use Rattle.trace.specs.Inside.{Written, writtenOf, append, RunTo, runTo, listedBy, listingBy}

@@ -5,7 +5,7 @@ use Prim.Native.Nat.{ℕ}
 use lib.Dec.{eqb}
 use lib.ListN.{length, drop}
 use Rattle.cache.specs.Run.{finally}
-use Rattle.fresh.specs.Fresh.{fresh}
+use Rattle.cache.specs.Fresh.{fresh}
 use Rattle.cache.specs.Step.{State}
 use Rattle.cache.specs.Tables.{Tables}
 use Rattle.tracefile.specs.File.{geometryOf, stepsOf, fileRefusal}

@@ -9,7 +9,7 @@ use lib.Seq.{sets}
 use Rattle.geometry.specs.declared.Geometry.{Geometry}
 use Rattle.domains.specs.declared.Domains.{Domains}
 use Rattle.cache.specs.Run.{answersOf, finally}
-use Rattle.fresh.specs.Fresh.{fresh}
+use Rattle.cache.specs.Fresh.{fresh}
 use Rattle.cache.specs.Tables.{Tables}
 use Rattle.cache.specs.Step.{State}
 use Rattle.tracefile.specs.File.{lastSteps}

@@ -1,0 +1,23 @@
+-- A fresh cache: "all zero, except that under NRU the low W bits of each replacement word are one. All policies and counts are zero."
+use Prim.Native.Nat.{_*_}
+use lib.ListN.{replicate}
+use Rattle.replacement.specs.Rule.{Rule, ruleOf}
+use Rattle.domains.specs.Domains.{maxDomains, noDomain}
+use Rattle.domains.specs.declared.Domains.{Domains}
+use Rattle.geometry.specs.declared.Geometry.{Geometry}
+use Rattle.cache.specs.Tables.{Tables}
+use Rattle.cache.specs.Step.{State}
+
+unfoldable pub freshTables : Geometry → Tables
+freshTables g = record {
+  tags = replicate (g .sets * g .ways) 0;
+  valid = replicate (g .sets) 0;
+  dirty = replicate (g .sets) 0;
+  words = replicate (g .sets) (ruleOf (g .rule) (g .ways) .fresh);
+}
+
+unfoldable pub freshDomains : Domains
+freshDomains = record { records = replicate maxDomains noDomain }
+
+unfoldable pub fresh : Geometry → State
+fresh g = record { tables = freshTables g; domains = freshDomains }
