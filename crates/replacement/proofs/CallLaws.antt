@@ -1,15 +1,15 @@
 -- What the public calls answer, by what their tests find: one law a call, for every rule, and for each rule what its crate gives.
-use mathlib.Core.Path.{_≡_, refl, sym, ap, ap₂, _∙_}
+use mathlib.Core.Path.{_≡_, refl, sym, ap, _∙_}
 use mathlib.Core.Bool.{Bool, true, false, not, _&&_, _||_, cond}
 use mathlib.Core.List.{[], _∷_}
 use Prim.Native.Nat.{ℕ, zero, suc, _^_, _≤_, _<_}
 use native.Mathlib.Omega.{arith}
 use lib.Dec.{ltb}
 use lib.Bits.{bitOr}
-use borrow.Author.Tests.{ne-eqb, ltb-true, lt-ltb, not-true}
+use borrow.Author.Tests.{ne-eqb, ltb-true, lt-ltb}
 use Rattle.waymap.specs.Bits.{bit, word, any, reaches}
 use Rattle.waymap.specs.Ways.{isWays, takes, Sized}
-use Rattle.waymap.proofs.Booleans.{cases, and-left, and-right, or-none}
+use Rattle.waymap.proofs.Booleans.{and-left, and-right, or-none}
 use Rattle.waymap.proofs.WayLaws.{any-bits, any-wider}
 use Rattle.waymap.proofs.WordLaws.{bit-high}
 use Rattle.waymap.proofs.MapLaws.{below-reach, reach-or}
@@ -20,9 +20,8 @@ use Rattle.nru.specs.Calls as Nru
 use Rattle.nru.specs.declared.Choice.{Choice}
 use Rattle.nru.proofs.NruWordLaws as NruLaws
 use Rattle.replacement.specs.Rule.{Rule, tree, nru, ruleOf}
-use Rattle.replacement.specs.Calls.{inLimits, victimOf, touchOf, resetOf, freshOf, sharesOf}
+use Rattle.replacement.specs.Calls.{inLimits, victimOf, touchOf, freshOf, sharesOf}
 use Rattle.replacement.specs.Change.{changeOf, changeUnder, changeBy}
-use Rattle.replacement.specs.declared.Change.{Change}
 
 -- ---- the limits
 
@@ -143,26 +142,11 @@ shares-by-tree W rule m n limits reach z e k =
 
 -- ---- a change of fill map, worked out first and then done, is the rule's
 
-pub change-resets : (W rule x old new : ℕ) → old < 2 ^ 16 → new < 2 ^ 16 → changeBy (changeOf W rule old new) x ≡ resetOf W rule x old new .word
-unfolding changeOf resetOf
-change-resets W rule x old new h k =
-    cases (inLimits W rule)
-    (λ t. cases (not (reaches W old) && not (reaches W new))
-    (λ u.
-    let first = not-true (reaches W old) (and-left (not (reaches W old)) (not (reaches W new)) u) in
-    let second = not-true (reaches W new) (and-right (not (reaches W old)) (not (reaches W new)) u) in
-    rw (t, u) (under rule (ways W rule t) first second))
-    (λ u. rw (t, u)))
-    (λ t. rw t)
+pub change-resets : (W rule x old new : ℕ) → old < 2 ^ 16 → new < 2 ^ 16 → inLimits W rule ≡ true → reaches W old ≡ false → reaches W new ≡ false
+    → changeBy (changeOf W rule old new) x ≡ ruleOf rule W .reset old new x
+unfolding changeOf
+change-resets W rule x old new h k limits first second = rw (limits, first, second) (under rule (ways W rule limits))
   where
-    under : (r : ℕ) → isWays W ≡ true → reaches W old ≡ false → reaches W new ≡ false → changeBy (changeUnder r W old new) x ≡ ruleOf r W .reset old new x
-    under zero w p q = tree-reset W w x old new p q
-    under (suc r) w p q = NruLaws.change-resets old new x h k
-
-pub reset-given : (W rule x old new : ℕ) {y : ℕ} → old < 2 ^ 16 → new < 2 ^ 16 → inLimits W rule ≡ true → reaches W (bitOr old new) ≡ false
-    → y ≡ changeBy (changeOf W rule old new) x → record { answer = 0 ∷ []; word = y } ≡ resetOf W rule x old new
-unfolding resetOf
-reset-given W rule x old new {y} h k limits r e =
-    let within : (not (reaches W old) && not (reaches W new)) ≡ true = either-reach W old new ∙ ap not r in
-    let done : changeBy (changeOf W rule old new) x ≡ ruleOf rule W .reset old new x = rw (limits, within) at (change-resets W rule x old new h k) in
-    rw (limits, within, e, done)
+    under : (r : ℕ) → isWays W ≡ true → changeBy (changeUnder r W old new) x ≡ ruleOf r W .reset old new x
+    under zero w = tree-reset W w x old new first second
+    under (suc r) w = NruLaws.change-resets old new x h k

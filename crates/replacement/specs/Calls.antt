@@ -1,11 +1,11 @@
 -- What the public calls answer.
-use mathlib.Core.Bool.{Bool, true, false, cond, not, _&&_, _||_}
+use mathlib.Core.Bool.{Bool, true, false, cond, not, _&&_}
 use mathlib.Core.List.{List, [], _∷_}
 use Prim.Native.Nat.{ℕ}
 use lib.Dec.{ltb}
 use Rattle.waymap.specs.Bits.{bit, any, reaches}
 use Rattle.waymap.specs.Ways.{isWays}
-use Rattle.replacement.specs.Rule.{Rule, ruleOf}
+use Rattle.replacement.specs.Rule.{ruleOf}
 use Rattle.replacement.specs.declared.Reply.{Reply}
 use Rattle.replacement.specs.declared.Reply.the-variants.{Way, Done, OutsideLimits, OutOfReach, SharedNode}
 use Rattle.replacement.specs.declared.Outcome.{Outcome}
@@ -53,12 +53,6 @@ unfoldable pub touchOf : ℕ → ℕ → ℕ → ℕ → ℕ → Result
 touchOf W rule word map way =
     checked (inLimits W rule) (not (reaches W map) && ltb way W) (refusing word)
     (record { answer = 0 ∷ []; word = ruleOf rule W .touch map way word })
-
--- The word after a change of fill map.
-unfoldable pub resetOf : ℕ → ℕ → ℕ → ℕ → ℕ → Result
-resetOf W rule word old new =
-    checked (inLimits W rule) (not (reaches W old) && not (reaches W new)) (refusing word)
-    (record { answer = 0 ∷ []; word = ruleOf rule W .reset old new word })
 
 -- The word of a fresh cache; 0 where the call is refused.
 unfoldable pub freshOf : ℕ → ℕ → Result

@@ -1,4 +1,4 @@
--- A change of fill map, worked out from the maps once and then done to any number of words. Law `change-resets`: it is `resetOf`.
+-- A change of fill map, worked out from the maps once and then done to any number of words. Law `change-resets`: it is the rule's reset.
 use mathlib.Core.Bool.{not, _&&_}
 use Prim.Native.Nat.{ℕ, zero, suc}
 use Rattle.waymap.specs.Bits.{reaches}
@@ -13,7 +13,7 @@ abbrev pub changeUnder : ℕ → ℕ → ℕ → ℕ → Change
 changeUnder zero W old new = Clear (Tree.changeOf W old new)
 changeUnder (suc r) W old new = Raise (Nru.changeOf old new)
 
--- Words stay where the call is refused.
+-- Words stay outside the limits.
 unfoldable pub changeOf : ℕ → ℕ → ℕ → ℕ → Change
 changeOf W rule old new =
     checked (inLimits W rule) (not (reaches W old) && not (reaches W new)) (λ n. Stay) (changeUnder rule W old new)

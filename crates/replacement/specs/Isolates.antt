@@ -2,7 +2,7 @@
 -- would be the ordered pairs of ways, of which a fill map's choices go by the pairs inside it, while its touches may change every pair
 -- with a way in it.
 use mathlib.Core.Path.{_≡_}
-use mathlib.Core.Bool.{Bool, true, false, _&&_}
+use mathlib.Core.Bool.{true, false, _&&_}
 use Prim.Native.Nat.{ℕ, _<_}
 use Rattle.waymap.specs.Bits.{bit, any}
 use Rattle.replacement.specs.Rule.{Rule}

@@ -1,7 +1,7 @@
 // The replacement rules, Tree-PLRU and NRU, without any cache above them: a word and a map give a victim and the word before its touch;
 // a word, a map and a touched way give a new word.
 ghost use mathlib.Core.Path.{_≡_};
-ghost use Rattle.replacement.specs.Calls.{answerOf, result, inLimits, victimOf, touchOf, resetOf, freshOf, sharesOf};
+ghost use Rattle.replacement.specs.Calls.{answerOf, result, inLimits, victimOf, touchOf, freshOf, sharesOf};
 ghost use Rattle.replacement.specs.Change.{changeOf, changeBy};
 
 // The answer of a call: a way, or that the call is done, or why it is refused.
@@ -136,28 +136,6 @@ pub fn changed(change: Change, word: u64) -> u64
         Change::Clear(nodes) => tree::reset(word, nodes),
         Change::Raise(ways) => nru::reset(word, ways),
         Change::Stay => word,
-    }
-}
-
-// The word after a change of fill map.
-pub fn reset(ways: usize, rule: usize, word: u64, old: u16, new: u16) -> Outcome
-    ensures { λ r. ⌜ result r ≡ resetOf ways rule word old new ⌝ }
-{
-    if in_limits(ways, rule) {} else {
-        return Outcome {
-            reply: Reply::OutsideLimits,
-            word,
-        };
-    }
-    if waymap::fits(old | new, ways) {} else {
-        return Outcome {
-            reply: Reply::OutOfReach,
-            word,
-        };
-    }
-    Outcome {
-        reply: Reply::Done,
-        word: changed(change_of(ways, rule, old, new), word),
     }
 }
 

@@ -26,8 +26,8 @@ pub most-ways : (W rule : ℕ) → inLimits W rule ≡ true → W ≤ 16
 most-ways W rule e = sized W rule e .most
 
 -- a fill map as read
-pub fill-usable : (W rule : ℕ) (p : Maps) → inLimits W rule ≡ true → Usable W rule (asRead W p .fill)
-fill-usable W rule p e = record { limits = e; within = fill-within W p; small = fill-small W p }
+pub fill-usable : (W rule : ℕ) (p : Maps) {q : Maps} → q ≡ asRead W p → inLimits W rule ≡ true → Usable W rule (q .fill)
+fill-usable W rule p e limits = record { limits = limits; within = rw e (fill-within W p); small = rw e (fill-small W p) }
 
 pub touch-gives : {W rule fill way : ℕ} (x : ℕ) (o : Outcome) → Usable W rule fill → way < W → result o ≡ touchOf W rule x fill way
     → o .word ≡ ruleOf rule W .touch fill way x

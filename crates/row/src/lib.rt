@@ -40,7 +40,21 @@ pub fn access(
         };
     }
     let read = policy::as_read(ways, maps);
-    work::serve(tags, lines, rule, read, tag, store)
+    let fill = read.fill;
+    let way = lookup::hit_way(tags, lines.valid, read.hit, tag);
+    if way < ways {
+        return Done {
+            answer: Answer::Hit(way),
+            lines: update::hit(lines, ways, rule, fill, store, way),
+        };
+    }
+    if fill == 0 {
+        return Done {
+            answer: Answer::Pass,
+            lines,
+        };
+    }
+    work::bring(tags, lines, rule, fill, tag, store)
 }
 
 // A flush.
@@ -55,5 +69,16 @@ pub fn flush(tags: &[u64], lines: Lines, maps: Maps, tag: u64) -> Done
         };
     }
     let read = policy::as_read(ways, maps);
-    work::drop_line(tags, lines, read, tag)
+    let way = lookup::hit_way(tags, lines.valid, read.hit, tag);
+    if way < ways {
+        let dirty = waymap::has(lines.dirty, way);
+        return Done {
+            answer: Answer::Flush { way, dirty },
+            lines: update::flushed(lines, way),
+        };
+    }
+    Done {
+        answer: Answer::Absent,
+        lines,
+    }
 }

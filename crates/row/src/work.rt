@@ -1,4 +1,4 @@
-// The steps on a set, within the limits and with maps as read.
+// A miss in a set with ways to fill, within the limits.
 use crate::Done;
 use crate::Lines;
 use crate::rules;
@@ -10,7 +10,7 @@ ghost use mathlib.Core.Bool.{true};
 ghost use lib.ListN.{length};
 ghost use Rattle.waymap.specs.Bits.{bit, any};
 ghost use Rattle.replacement.specs.Rule.{ruleOf};
-ghost use Rattle.row.specs.Row.{evictAt, access, flush};
+ghost use Rattle.row.specs.Row.{evictAt};
 ghost use Rattle.row.specs.Calls.{rowOf, result};
 ghost use Rattle.row.specs.Inside.{Usable, missAt};
 
@@ -37,7 +37,7 @@ fn evict(tags: &mut [u64], lines: Lines, rule: usize, fill: u16, tag: u64, store
 }
 
 // A miss with ways to fill: the lowest invalid way of the fill map is filled; without one the victim is evicted.
-fn bring(tags: &mut [u64], lines: Lines, rule: usize, fill: u16, tag: u64, store: bool) -> Done
+pub fn bring(tags: &mut [u64], lines: Lines, rule: usize, fill: u16, tag: u64, store: bool) -> Done
     requires { ⌜ Usable (length (now tags)) rule fill ⌝ }
     requires { ⌜ any (length (now tags)) (bit fill) ≡ true ⌝ }
     ensures { λ r. ⌜ result r (now (tags .exit)) ≡ missAt (ruleOf rule (length (now (tags .entry)))) fill tag store (rowOf (now (tags .entry)) lines) ⌝ }
@@ -52,45 +52,4 @@ fn bring(tags: &mut [u64], lines: Lines, rule: usize, fill: u16, tag: u64, store
         };
     }
     evict(tags, lines, rule, fill, tag, store)
-}
-
-// An access.
-pub fn serve(tags: &mut [u64], lines: Lines, rule: usize, maps: Maps, tag: u64, store: bool) -> Done
-    requires { ⌜ Usable (length (now tags)) rule (maps .fill) ⌝ }
-    ensures { λ r. ⌜ result r (now (tags .exit)) ≡ access (ruleOf rule (length (now (tags .entry)))) maps tag store (rowOf (now (tags .entry)) lines) ⌝ }
-{
-    let ways = tags.len();
-    let fill = maps.fill;
-    let way = lookup::hit_way(tags, lines.valid, maps.hit, tag);
-    if way < ways {
-        return Done {
-            answer: Answer::Hit(way),
-            lines: update::hit(lines, ways, rule, fill, store, way),
-        };
-    }
-    if fill == 0 {
-        return Done {
-            answer: Answer::Pass,
-            lines,
-        };
-    }
-    bring(tags, lines, rule, fill, tag, store)
-}
-
-// A flush.
-pub fn drop_line(tags: &[u64], lines: Lines, maps: Maps, tag: u64) -> Done
-    ensures { λ r. ⌜ result r (now (tags .entry)) ≡ flush maps tag (rowOf (now (tags .entry)) lines) ⌝ }
-{
-    let way = lookup::hit_way(tags, lines.valid, maps.hit, tag);
-    if way < tags.len() {
-        let dirty = waymap::has(lines.dirty, way);
-        return Done {
-            answer: Answer::Flush { way, dirty },
-            lines: update::flushed(lines, way),
-        };
-    }
-    Done {
-        answer: Answer::Absent,
-        lines,
-    }
 }

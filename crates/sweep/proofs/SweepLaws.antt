@@ -12,7 +12,7 @@ use Rattle.waymap.proofs.BitLaws.{bit-and, bit-xor, bit-not}
 use Rattle.waymap.proofs.WordLaws.{bit-word, from-bits, bit-high}
 use Rattle.waymap.proofs.WayLaws.{count-wider}
 use Rattle.replacement.specs.Rule.{ruleOf}
-use Rattle.replacement.specs.Calls.{inLimits, resetOf}
+use Rattle.replacement.specs.Calls.{inLimits}
 use Rattle.replacement.specs.Change.{changeOf, changeBy}
 use Rattle.replacement.specs.declared.Change.{Change}
 use Rattle.replacement.proofs.CallLaws.{change-resets}
@@ -89,10 +89,10 @@ module _ (rule : ℕ) (old new : Maps) (r : Row) (limits : inLimits (ways r) rul
       (λ i h. rw (beyond i h))
 
   word-is : changeBy (sweepOf W rule old new .change) (r .word) ≡ ruleOf rule W .reset (was .fill) (next .fill) (r .word)
-  unfolding sweepOf resetOf
+  unfolding sweepOf
   word-is =
-      change-resets W rule (r .word) (was .fill) (next .fill) (ReadLaws.fill-small W old) (ReadLaws.fill-small W new)
-      ∙ rw (limits, ReadLaws.fill-within W old, ReadLaws.fill-within W new)
+      change-resets W rule (r .word) (was .fill) (next .fill) (ReadLaws.fill-small W old) (ReadLaws.fill-small W new) limits
+      (ReadLaws.fill-within W old) (ReadLaws.fill-within W new)
 
   pub sweep-cleans : sweepBy (sweepOf W rule old new) r ≡ clean (ruleOf rule W) was next r
   unfolding sweepBy drops sweptLines clean cleaned dropped droppedDirty
