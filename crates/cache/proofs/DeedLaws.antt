@@ -22,7 +22,7 @@ use Rattle.verdict.proofs.RefusalLaws.{not-full}
 use Rattle.cache.specs.Tables.{Tables, eachSet, total}
 use Rattle.cache.specs.Inside.{Shaped, Work, RowWork, workAt, AllSwept, Deed, deedOf, unless, lineDeed, policyDeed}
 use Rattle.cache.specs.declared.account.Used.{Used}
-use Rattle.cache.specs.declared.sets.Drops.{Drops}
+use Rattle.sweep.specs.declared.Drops.{Drops}
 use Rattle.cache.proofs.SweepLaws.{all-clean}
 
 down : {n m : ℕ} {u : Used} (x : Domain) (t : Tables) (done : Deed) → n ≡ m → (n ≡ 0 → ⊥) → u ≡ record { answer = Refused n; own = x }

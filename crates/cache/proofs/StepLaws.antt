@@ -37,7 +37,7 @@ use Rattle.geometry.proofs.GeometryLaws.{limited}
 use Rattle.command.proofs.KindLaws.{asked-policy}
 use Rattle.verdict.proofs.RefusalLaws.{by-line, by-policy, by-unknown}
 use Rattle.verdict.proofs.PolicyLaws.{read-policies}
-use Rattle.cache.specs.Geometry.{setOf, tagOf}
+use Rattle.geometry.specs.Address.{setOf, tagOf}
 use Rattle.cache.specs.Tables.{Tables, lengths, rowAt, eachSet, total}
 use Rattle.cache.specs.Step.{State, Outcome, outcome, answers, onSet, rowEffect, useLine, changePolicy, stepBy, decided, step}
 use Rattle.cache.specs.Inside.{Shaped, Work, onRow, workOf, workAt, lineWork, Deed, deedOf, unless, lineDeed, policyDeed}

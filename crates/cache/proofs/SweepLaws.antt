@@ -1,54 +1,30 @@
 -- A change of policy, set after set.
-use mathlib.Core.Path.{_≡_, refl, sym, ap, ap₂, subst, _∙_}
-use mathlib.Core.Logic.{_⊎_, inl, inr}
-use mathlib.Core.Bool.{Bool, true, cond, _&&_}
-use mathlib.Core.List.{List, [], _∷_}
-use Prim.Native.Nat.{ℕ, zero, suc, _+_, _-_, _*_, _≤_, _<_}
+use mathlib.Core.Path.{_≡_, refl, ap, ap₂, subst, _∙_}
+use mathlib.Core.Bool.{_&&_}
+use Prim.Native.Nat.{ℕ, zero, suc, _+_, _-_, _*_, _^_, _≤_, _<_}
+use native.Mathlib.Nat.{lt-of-le-of-lt}
 use native.Mathlib.Numerals.{add-one}
 use native.Mathlib.Omega.{arith}
+use lib.Dec.{lit<}
 use lib.ListN.{length}
-use types.Run.{OneOf}
-use denote.Enum.Declared.{tagOf}
-use Rattle.waymap.specs.Bits.{bit, count}
+use Rattle.waymap.specs.Bits.{bit}
 use Rattle.waymap.proofs.WayLaws.{count-le}
-use Rattle.replacement.specs.Rule.{Rule, ruleOf}
-use Rattle.command.proofs.Answer.{the-type}
+use Rattle.replacement.specs.Rule.{ruleOf}
 use Rattle.sweep.proofs.TagLaws.{wiped-length}
 use Rattle.sweep.proofs.SweepLaws.{sweep-cleans}
 use Rattle.row.specs.Row.{Row, Effect, ways}
 use Rattle.policy.specs.Policy.{asRead}
 use Rattle.sweep.specs.Clean.{dropped, droppedDirty, cleaned, clean}
-use Rattle.sweep.specs.Sweep.{sweepOf, drops, sweepBy}
+use Rattle.sweep.specs.Sweep.{sweepOf, drops, sweepBy, dropsIn, addedTo}
+use Rattle.sweep.specs.declared.Drops.{Drops}
+use Rattle.sweep.proofs.DropLaws.{added-fits}
 use Rattle.sweep.specs.declared.Sweep.{Sweep}
 use Rattle.policy.specs.declared.Maps.{Maps}
 use Rattle.command.specs.declared.Answer.{Answer}
-use Rattle.command.specs.declared.Answer.the-variants.{Hit, Fill, Evict, Pass, Flush, Absent, Policy, Refused}
 use Rattle.geometry.specs.declared.Geometry.{Geometry}
 use Rattle.cache.specs.Tables.{Tables, rowAt, putRow, eachSet, total}
-use Rattle.cache.specs.Inside.{Shaped, Work, RowWork, onRow, dropsIn, dropsOf, Swept, AllSwept}
-use Rattle.cache.specs.declared.sets.Drops.{Drops}
+use Rattle.cache.specs.Inside.{Shaped, Work, RowWork, onRow, dropsOf, AllSwept}
 use Rattle.cache.proofs.SetLaws.{row-long, put-shaped, each-later}
-
--- ---- the drops that an answer tells
-
-not-six : (n : ℕ) → n ≡ 6 → (n ≡ 0) ⊎ ((n ≡ 1) ⊎ ((n ≡ 2) ⊎ ((n ≡ 3) ⊎ ((n ≡ 4) ⊎ ((n ≡ 5) ⊎ (n ≡ 7)))))) → ⊥
-not-six n six (inl e) = omega arith
-not-six n six (inr (inl e)) = omega arith
-not-six n six (inr (inr (inl e))) = omega arith
-not-six n six (inr (inr (inr (inl e)))) = omega arith
-not-six n six (inr (inr (inr (inr (inl e))))) = omega arith
-not-six n six (inr (inr (inr (inr (inr (inl e)))))) = omega arith
-not-six n six (inr (inr (inr (inr (inr (inr e)))))) = omega arith
-
-pub no-drops : (a : Answer) → OneOf (0 ∷ 1 ∷ 2 ∷ 3 ∷ 4 ∷ 5 ∷ 7 ∷ []) (tagOf the-type a) → record { dropped = 0; dirty = 0 } ≡ dropsIn a
-no-drops (Hit w) h = refl
-no-drops (Fill w) h = refl
-no-drops (Evict w tag dirty) h = refl
-no-drops Pass h = refl
-no-drops (Flush w dirty) h = refl
-no-drops Absent h = refl
-no-drops (Policy n d) h = absurd (not-six 6 refl h)
-no-drops (Refused n) h = refl
 
 -- ---- one set
 
@@ -62,14 +38,6 @@ unfolding sweepBy drops
 few-drops s r =
     let gone = asRead (ways r) (record { hit = s .gone; fill = 0 }) .hit in
     (count-le 16 (λ (w : ℕ). bit gone w && bit (r .valid) w), count-le 16 (λ (w : ℕ). bit gone w && bit (r .valid) w && bit (r .dirty) w))
-
-pub swept-is : (g : Geometry) (s : Sweep) (set : ℕ) (t : Tables) {a : Answer} {u : Tables} {d : Drops}
-    → RowWork a u (onRow (g .ways) set (sweepBy s) t) → d ≡ dropsIn a → Swept g s set t u d
-unfolding onRow
-swept-is g s set t e q = record {
-  tables-is = ap (λ (w : Work). w .tables) e;
-  drops-is = q ∙ ap (λ (w : Work). dropsIn (w .answer)) e;
-}
 
 -- ---- set after set
 
@@ -99,24 +67,44 @@ module _ (g : Geometry) (sweep : Sweep) (before after : Tables) (h : Shaped g be
       ap (rowAt (g .ways) s) (l .swept .tables-is)
       ∙ each-later g (λ (r : Row). sweepBy sweep r .row) (swept-long sweep) before h s (omega arith) s (omega arith)
 
-  pub turned : (u : Tables) (d : Drops) → Swept g sweep s after u d → Sweeping g sweep before u (dropped + d .dropped) (dirt + d .dirty) (s + 1)
-  unfolding eachSet total
-  turned u d e = record {
-    within = omega arith;
-    shaped = rw (e .tables-is)
-        (put-shaped g after (sweepBy sweep (rowAt (g .ways) s after) .row) (l .shaped) s k
-        (swept-long sweep (rowAt (g .ways) s after) ∙ row-long g (l .shaped) s k));
-    swept = rw (add-one s) (record {
-      tables-is = e .tables-is ∙ ap₂ (λ (r : Row) (t : Tables). putRow (g .ways) s (sweepBy sweep r .row) t) row-is (l .swept .tables-is);
-      dropped-is = ap₂ _+_ (l .swept .dropped-is) (ap (λ (x : Drops). x .dropped) drops-is);
-      dirty-is = ap₂ _+_ (l .swept .dirty-is) (ap (λ (x : Drops). x .dirty) drops-is);
-    });
-    few = omega (arith, l .few, ap (λ (x : Drops). x .dropped) drops-is, few-drops sweep (rowAt (g .ways) s before) .0);
-    few-dirty = omega (arith, l .few-dirty, ap (λ (x : Drops). x .dirty) drops-is, few-drops sweep (rowAt (g .ways) s before) .1);
-  }
-    where
-      drops-is : d ≡ dropsOf sweep (rowAt (g .ways) s before)
-      drops-is = e .drops-is ∙ ap (dropsOf sweep) row-is
+  module _ {a : Answer} {u : Tables} (e : RowWork a u (onRow (g .ways) s (sweepBy sweep) after)) where
+    drops-is : dropsIn a ≡ dropsOf sweep (rowAt (g .ways) s before)
+    unfolding onRow
+    drops-is = ap (λ (w : Work). dropsIn (w .answer)) e ∙ ap (dropsOf sweep) row-is
+
+    tables-is : u ≡ putRow (g .ways) s (sweepBy sweep (rowAt (g .ways) s after) .row) after
+    unfolding onRow
+    tables-is = ap (λ (w : Work). w .tables) e
+
+    more : (dropped + dropsIn a .dropped ≤ 16 * (s + 1)) × (dirt + dropsIn a .dirty ≤ 16 * (s + 1))
+    more =
+        let few = few-drops sweep (rowAt (g .ways) s before) in (
+          omega (arith, l .few, ap (λ (x : Drops). x .dropped) drops-is, few .0),
+          omega (arith, l .few-dirty, ap (λ (x : Drops). x .dirty) drops-is, few .1),
+        )
+
+    -- the sums stay far below the largest number
+    sums-are : addedTo (record { dropped = dropped; dirty = dirt }) a ≡ record { dropped = dropped + dropsIn a .dropped; dirty = dirt + dropsIn a .dirty }
+    sums-are =
+        let sets : 16 * (s + 1) ≤ 4096 = omega (arith, h .limited .most-sets) in
+        let room : 16 * (s + 1) < 2 ^ 64 = lt-of-le-of-lt sets (lit< tt) in
+        added-fits (record { dropped = dropped; dirty = dirt }) a (lt-of-le-of-lt (more .0) room) (lt-of-le-of-lt (more .1) room)
+
+    pub turned : {d : Drops} → d ≡ addedTo (record { dropped = dropped; dirty = dirt }) a → Sweeping g sweep before u (d .dropped) (d .dirty) (s + 1)
+    unfolding eachSet total
+    turned q = rw (q ∙ sums-are) (record {
+      within = omega arith;
+      shaped = rw tables-is
+          (put-shaped g after (sweepBy sweep (rowAt (g .ways) s after) .row) (l .shaped) s k
+          (swept-long sweep (rowAt (g .ways) s after) ∙ row-long g (l .shaped) s k));
+      swept = rw (add-one s) (record {
+        tables-is = tables-is ∙ ap₂ (λ (r : Row) (t : Tables). putRow (g .ways) s (sweepBy sweep r .row) t) row-is (l .swept .tables-is);
+        dropped-is = ap₂ _+_ (l .swept .dropped-is) (ap (λ (x : Drops). x .dropped) drops-is);
+        dirty-is = ap₂ _+_ (l .swept .dirty-is) (ap (λ (x : Drops). x .dirty) drops-is);
+      });
+      few = more .0;
+      few-dirty = more .1;
+    })
 
 pub end : (g : Geometry) (sweep : Sweep) (before after : Tables) {dropped dirt s : ℕ} → Sweeping g sweep before after dropped dirt s → g .sets ≤ s
     → AllSwept g sweep (g .sets) before after dropped dirt

@@ -10,11 +10,11 @@ use Rattle.policy.specs.Policy.{asRead, newMaps}
 use Rattle.sweep.specs.Clean.{dropped, droppedDirty, cleaned}
 use Rattle.row.specs.Row as Row
 use Rattle.row.specs.Calls.{accessOf, flushOf}
-use Rattle.sweep.specs.Sweep.{sweepBy}
+use Rattle.sweep.specs.Sweep.{sweepBy, dropsIn}
 use Rattle.sweep.specs.declared.Sweep.{Sweep}
 use Rattle.policy.specs.declared.Maps.{Maps}
 use Rattle.command.specs.declared.Answer.{Answer}
-use Rattle.command.specs.declared.Answer.the-variants.{Hit, Fill, Evict, Pass, Flush, Absent, Policy, Refused}
+use Rattle.command.specs.declared.Answer.the-variants.{Policy, Refused}
 use Rattle.domains.specs.Domains.{mapsOf, usedDomain, newDomain}
 use Rattle.verdict.specs.Refusal.{useRefusal}
 use Rattle.verdict.specs.Calls.{policyRefusalOf}
@@ -22,11 +22,11 @@ use Rattle.geometry.specs.Inside.{Limited}
 use Rattle.domains.specs.declared.Domain.{Domain}
 use Rattle.domains.specs.declared.Policies.{Policies}
 use Rattle.geometry.specs.declared.Geometry.{Geometry}
-use Rattle.cache.specs.Geometry.{setOf, tagOf}
+use Rattle.geometry.specs.Address.{setOf, tagOf}
 use Rattle.cache.specs.Tables.{Tables, rowAt, putRow, eachSet, total}
 use Rattle.cache.specs.declared.account.Used.{Used}
-use Rattle.cache.specs.declared.place.Place.{Place}
-use Rattle.cache.specs.declared.sets.Drops.{Drops}
+use Rattle.geometry.specs.declared.Place.{Place}
+use Rattle.sweep.specs.declared.Drops.{Drops}
 
 -- Tables of the right lengths under such a geometry.
 pub record Shaped (g : Geometry) (t : Tables) : Type 0 where
@@ -67,26 +67,11 @@ onRow W s f t = record { answer = f (rowAt W s t) .answer; tables = putRow W s (
 unfoldable pub workAt : Geometry → Bool → Bool → Maps → ℕ → Tables → Work
 workAt g flushes store p address t = onRow (g .ways) (setOf g address) (workOf flushes store (g .rule) p (tagOf g address)) t
 
--- The drops that an answer tells of.
-abbrev pub dropsIn : Answer → Drops
-dropsIn (Policy n d) = record { dropped = n; dirty = d }
-dropsIn (Hit w) = record { dropped = 0; dirty = 0 }
-dropsIn (Fill w) = record { dropped = 0; dirty = 0 }
-dropsIn (Evict w tag dirty) = record { dropped = 0; dirty = 0 }
-dropsIn Pass = record { dropped = 0; dirty = 0 }
-dropsIn (Flush w dirty) = record { dropped = 0; dirty = 0 }
-dropsIn Absent = record { dropped = 0; dirty = 0 }
-dropsIn (Refused n) = record { dropped = 0; dirty = 0 }
-
 -- The drops of a sweep in a set.
 abbrev pub dropsOf : Sweep → Row → Drops
 dropsOf s r = dropsIn (sweepBy s r .answer)
 
--- What the sweep of one set, or of the first n sets, leaves and tells.
-pub record Swept (g : Geometry) (s : Sweep) (set : ℕ) (before after : Tables) (d : Drops) : Type 0 where
-  pub tables-is : after ≡ putRow (g .ways) set (sweepBy s (rowAt (g .ways) set before) .row) before
-  pub drops-is : d ≡ dropsOf s (rowAt (g .ways) set before)
-
+-- What the sweep of the first n sets leaves and tells.
 pub record AllSwept (g : Geometry) (s : Sweep) (n : ℕ) (before after : Tables) (drops dirt : ℕ) : Type 0 where
   pub tables-is : after ≡ eachSet (g .ways) n (λ r. sweepBy s r .row) before
   pub dropped-is : drops ≡ total (g .ways) n (λ r. dropsOf s r .dropped) before

@@ -1,5 +1,4 @@
 -- The cache: document 01, "Geometry and tables" and "Steps".
-pub mod Geometry
 pub mod Tables
 pub mod Step
 pub mod Run

@@ -17,7 +17,7 @@ use Rattle.command.specs.Kind.{Kind, access, flush, policy, unknown, kindOf}
 use Rattle.verdict.specs.Refusal.{refusal}
 use Rattle.geometry.specs.declared.Geometry.{Geometry}
 use Rattle.domains.specs.declared.Domains.{Domains}
-use Rattle.cache.specs.Geometry.{setOf, tagOf}
+use Rattle.geometry.specs.Address.{setOf, tagOf}
 use Rattle.cache.specs.Tables.{Tables, lengths, rowAt, putRow, eachSet, total}
 use Rattle.cache.specs.declared.Stepped.{Stepped}
 

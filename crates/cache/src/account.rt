@@ -1,9 +1,9 @@
 // A domain's record after a step.
 use crate::Stepped;
-use crate::sets::Drops;
 use command::Answer;
 use domains::Domain;
 use domains::Domains;
+use sweep::Drops;
 ghost use mathlib.Core.Path.{_≡_};
 ghost use mathlib.Core.Bool.{false};
 ghost use Prim.Native.Nat.{_<_};

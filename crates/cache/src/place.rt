@@ -1,14 +1,9 @@
 // Where an address's line can be, and where a set's tags lie.
 use geometry::Geometry;
+use geometry::Place;
 ghost use Prim.Native.Nat.{_<_};
 ghost use Rattle.geometry.specs.Inside.{Limited};
 ghost use Rattle.cache.specs.Inside.{PlaceOf, RowOf};
-
-// An address's set, and its tag there.
-pub struct Place {
-    pub set: usize,
-    pub tag: u64,
-}
 
 // A set's part of the tags.
 pub struct Span {
@@ -20,12 +15,7 @@ pub fn place_of(g: Geometry, address: u64) -> Place
     requires { ⌜ Limited g ⌝ }
     ensures { λ r. ⌜ PlaceOf g address r ⌝ }
 {
-    let sets = g.sets;
-    let line = address / 64;
-    Place {
-        set: (line % (sets as u64)) as usize,
-        tag: line / (sets as u64),
-    }
+    geometry::place_of(g, address)
 }
 
 pub fn span_of(g: Geometry, set: usize) -> Span

@@ -5,12 +5,14 @@ use geometry::Geometry;
 use policy::Maps;
 use row::Done;
 use row::Lines;
+use sweep::Drops;
 use sweep::Sweep;
 ghost use mathlib.Core.Path.{_≡_};
 ghost use Prim.Native.Nat.{_<_};
 ghost use Rattle.row.specs.Calls.{rowOf, result};
+ghost use Rattle.sweep.specs.Sweep.{sweepBy};
 ghost use Rattle.cache.specs.Step.{tablesOf};
-ghost use Rattle.cache.specs.Inside.{Shaped, workOf, RowWork, workAt, dropsIn, Swept, AllSwept};
+ghost use Rattle.cache.specs.Inside.{Shaped, workOf, RowWork, onRow, workAt, AllSwept};
 
 // An access or a flush on a row.
 fn on_row(
@@ -73,24 +75,6 @@ pub fn use_set(
     done.answer
 }
 
-// The valid lines that a change of policy dropped, and how many of them were dirty.
-pub struct Drops {
-    pub dropped: usize,
-    pub dirty: usize,
-}
-
-fn drops_of(answer: Answer) -> Drops
-    ensures { λ r. ⌜ r ≡ dropsIn answer ⌝ }
-{
-    match answer {
-        Answer::Policy { dropped, dirty } => Drops { dropped, dirty },
-        _ => Drops {
-            dropped: 0,
-            dirty: 0,
-        },
-    }
-}
-
 // The cleaning of one set in the tables.
 fn sweep_set(
     g: Geometry,
@@ -100,12 +84,12 @@ fn sweep_set(
     words: &mut [u64],
     sweep: Sweep,
     set: usize,
-) -> Drops
+) -> Answer
     requires { ⌜ Shaped g (tablesOf (now tags) (now valid) (now dirty) (now words)) ⌝ }
     requires { ⌜ set < g .sets ⌝ }
     ensures { λ r.
-        ⌜ Swept g sweep set (tablesOf (now (tags .entry)) (now (valid .entry)) (now (dirty .entry)) (now (words .entry)))
-        (tablesOf (now (tags .exit)) (now (valid .exit)) (now (dirty .exit)) (now (words .exit))) r ⌝ }
+        ⌜ RowWork r (tablesOf (now (tags .exit)) (now (valid .exit)) (now (dirty .exit)) (now (words .exit)))
+        (onRow (g .ways) set (sweepBy sweep) (tablesOf (now (tags .entry)) (now (valid .entry)) (now (dirty .entry)) (now (words .entry)))) ⌝ }
 {
     let span = place::span_of(g, set);
     let start = span.start;
@@ -120,8 +104,7 @@ fn sweep_set(
     valid[set] = left.valid;
     dirty[set] = left.dirty;
     words[set] = left.word;
-    let answer = done.answer;
-    drops_of(answer)
+    done.answer
 }
 
 // The cleaning of every set.
@@ -139,17 +122,15 @@ pub fn sweep_sets(
         (tablesOf (now (tags .exit)) (now (valid .exit)) (now (dirty .exit)) (now (words .exit))) (r .dropped) (r .dirty) ⌝ }
 {
     let sets = g.sets;
-    let mut dropped = 0;
-    let mut dirt = 0;
+    let mut drops = Drops {
+        dropped: 0,
+        dirty: 0,
+    };
     let mut set = 0;
     while set < sets {
-        let drops = sweep_set(g, tags, valid, dirty, words, sweep, set);
-        dropped = dropped + drops.dropped;
-        dirt = dirt + drops.dirty;
+        let answer = sweep_set(g, tags, valid, dirty, words, sweep, set);
+        drops = sweep::added(drops, answer);
         set = set + 1;
     }
-    Drops {
-        dropped,
-        dirty: dirt,
-    }
+    drops
 }

@@ -16,7 +16,7 @@ use Rattle.domains.specs.Domains.{domainOf, policies, isFull, putDomain, counte
 use Rattle.command.specs.Kind.{kindOf}
 use Rattle.policy.specs.Policy.{asRead, newMaps, badArgument}
 use Rattle.verdict.specs.Refusal.{sharesWay, sharesNode, useRefusal, policyRefusal, refusalBy, refusal}
-use Rattle.cache.specs.Geometry.{setOf, tagOf}
+use Rattle.geometry.specs.Address.{setOf, tagOf}
 use Rattle.cache.specs.Tables.{rowAt, putRow, eachSet, total}
 use Rattle.cache.specs.Step.{onSet, rowEffect, useLine, changePolicy, stepBy, decided, step}
 use Rattle.cache.specs.Run.{answersOf}

@@ -1,3 +1,4 @@
--- Document 01, "Geometry and tables": the limits and the tables' lengths.
+-- Document 01, "Geometry and tables": the limits, the tables' lengths, and the set and tag of an address.
 pub mod Geometry
+pub mod Address
 pub mod Inside

@@ -1,6 +1,7 @@
-// The geometry of a cache: its limits, and how long the tables are.
+// The geometry of a cache: its limits, how long the tables are, and where an address's line can be.
 ghost use mathlib.Core.Path.{_≡_};
 ghost use Rattle.geometry.specs.Geometry.{within as withinLimits, sized as sizedAs, sizesOf};
+ghost use Rattle.geometry.specs.Address.{placeOf};
 ghost use Rattle.geometry.specs.Inside.{Limited};
 
 const MAX_SETS: usize = 256;
@@ -58,4 +59,28 @@ pub fn sizes(g: Geometry, tags: usize, valid: usize, dirty: usize, words: usize)
         return 2;
     }
     0
+}
+
+// An address's set, and its tag there.
+pub struct Place {
+    pub set: usize,
+    pub tag: u64,
+}
+
+// Where an address's line can be. By no sets, which no call of the cache comes to, division leaves the line and gives 0.
+pub fn place_of(g: Geometry, address: u64) -> Place
+    ensures { λ r. ⌜ r ≡ placeOf g address ⌝ }
+{
+    let sets = g.sets as u64;
+    let line = address / 64;
+    if sets == 0 {
+        return Place {
+            set: line as usize,
+            tag: 0,
+        };
+    }
+    Place {
+        set: (line % sets) as usize,
+        tag: line / sets,
+    }
 }

@@ -22,7 +22,7 @@ use Rattle.geometry.specs.Inside.{Limited}
 use Rattle.geometry.specs.declared.Geometry.{Geometry}
 use Rattle.domains.specs.declared.Domain.{Domain}
 use Rattle.domains.specs.declared.Domains.{Domains}
-use Rattle.cache.specs.Geometry.{setOf, tagOf}
+use Rattle.geometry.specs.Address.{setOf, tagOf}
 use Rattle.cache.specs.Tables.{Tables, rowAt, putRow}
 use Rattle.cache.specs.Step.{State, Outcome, onSet, rowEffect, useLine}
 use Rattle.cache.specs.Inside.{Shaped, lineWork}

@@ -18,7 +18,7 @@ use Rattle.policy.specs.Policy.{asRead, newMaps, badArgument}
 use Rattle.verdict.specs.Refusal.{sharesWay, sharesNode, useRefusal, policyRefusal, refusalBy, refusal}
 use Rattle.geometry.specs.declared.Geometry.{Geometry}
 use Rattle.domains.specs.declared.Counts.{Counts}
-use Rattle.cache.specs.Geometry.{setOf, tagOf}
+use Rattle.geometry.specs.Address.{setOf, tagOf}
 use Rattle.cache.specs.Tables.{rowAt, putRow, eachSet, total}
 use Rattle.cache.specs.Step.{State, onSet, rowEffect, useLine, changePolicy, stepBy, decided, step}
 use Rattle.command.specs.Command.{Command}

@@ -2,3 +2,4 @@
 pub mod TagLaws
 pub mod SweepLaws
 pub mod CleanLaws
+pub mod DropLaws

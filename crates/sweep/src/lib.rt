@@ -2,13 +2,14 @@
 mod lines;
 mod tags;
 
+use command::Answer;
 use policy::Maps;
 use replacement::Change;
 use row::Done;
 use row::Lines;
 ghost use mathlib.Core.Path.{_≡_};
 ghost use Rattle.row.specs.Calls.{rowOf, result};
-ghost use Rattle.sweep.specs.Sweep.{sweepOf, sweepBy};
+ghost use Rattle.sweep.specs.Sweep.{sweepOf, sweepBy, dropsIn, addedTo};
 
 // What a change of policy does to every set alike: the ways that are cleaned, and what becomes of the replacement word.
 pub struct Sweep {
@@ -47,5 +48,35 @@ pub fn swept(tags: &mut [u64], lines: Lines, sweep: Sweep) -> Done
     Done {
         answer,
         lines: left,
+    }
+}
+
+// The valid lines that a change of policy dropped, and how many of them were dirty.
+pub struct Drops {
+    pub dropped: usize,
+    pub dirty: usize,
+}
+
+// The drops that an answer tells of.
+fn drops_of(answer: Answer) -> Drops
+    ensures { λ r. ⌜ r ≡ dropsIn answer ⌝ }
+{
+    match answer {
+        Answer::Policy { dropped, dirty } => Drops { dropped, dirty },
+        _ => Drops {
+            dropped: 0,
+            dirty: 0,
+        },
+    }
+}
+
+// The drops so far with those of one set more.
+pub fn added(drops: Drops, answer: Answer) -> Drops
+    ensures { λ r. ⌜ r ≡ addedTo drops answer ⌝ }
+{
+    let more = drops_of(answer);
+    Drops {
+        dropped: std::num::wrapping_add_usize(drops.dropped, more.dropped),
+        dirty: std::num::wrapping_add_usize(drops.dirty, more.dirty),
     }
 }

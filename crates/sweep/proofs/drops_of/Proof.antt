@@ -1,8 +1,8 @@
--- `cache::sets::drops_of` meets its contract.
+-- `sweep::drops_of` meets its contract.
 use borrow.Author.Needs.{needs}
-use Rattle.cache.proofs.SweepLaws.{no-drops}
-use Rattle.cache.proofs.sets.drops_of.Statement.{statement}
-use Rattle.cache.proofs.sets.drops_of.Tie as tie
+use Rattle.sweep.proofs.DropLaws.{no-drops}
+use Rattle.sweep.proofs.drops_of.Statement.{statement}
+use Rattle.sweep.proofs.drops_of.Tie as tie
 
 enum-known-answer : tie.Need-enum-known-answer
 enum-known-answer c = search needs

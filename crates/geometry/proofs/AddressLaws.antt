@@ -1,0 +1,17 @@
+-- The set and tag of an address.
+use mathlib.Core.Path.{_≡_, refl}
+use Prim.Native.Nat.{ℕ, _/_, _%_, _<_}
+use native.Mathlib.Nat.{mod-lt, mod-zero, div-zero}
+use Rattle.geometry.specs.Address.{setOf, tagOf, placeOf}
+use Rattle.geometry.specs.Inside.{Limited}
+use Rattle.geometry.specs.declared.Geometry.{Geometry}
+
+-- by no sets
+pub no-sets : (g : Geometry) (address : ℕ) → g .sets ≡ 0 → record { set = address / 64; tag = 0 } ≡ placeOf g address
+unfolding placeOf setOf tagOf
+no-sets g address e = rw (e, mod-zero (address / 64), div-zero (address / 64))
+
+-- within the limits the set is one of the cache's
+pub set-below : (g : Geometry) (address : ℕ) → Limited g → setOf g address < g .sets
+unfolding setOf
+set-below g address l = mod-lt (address / 64) (l .some-set)
