@@ -50,23 +50,40 @@ fn step(place: usize, word: &[u8], values: &[u64], out: &mut [u8], at: usize) ->
 // What a line says: a word of at most seven bytes with its length, and at most three fields with their number.
 pub struct Phrase(pub [u8; 7], pub usize, pub [u64; 3], pub usize);
 
+// The words of answers, each in seven bytes.
+const HIT: [u8; 7] = *b"hit    ";
+
+const FILL: [u8; 7] = *b"fill   ";
+
+const EVICT: [u8; 7] = *b"evict  ";
+
+const PASS: [u8; 7] = *b"pass   ";
+
+const FLUSH: [u8; 7] = *b"flush  ";
+
+const ABSENT: [u8; 7] = *b"absent ";
+
+const POLICY: [u8; 7] = *b"policy ";
+
+const REFUSED: [u8; 7] = *b"refused";
+
 // An answer's word and fields.
 fn said(answer: Answer) -> Phrase
     ensures { λ r. ⌜ Says r (toldAs (answerOf answer)) ⌝ }
 {
     match answer {
-        Answer::Hit(way) => Phrase(*b"hit    ", 3, [way as u64, 0, 0], 1),
-        Answer::Fill(way) => Phrase(*b"fill   ", 4, [way as u64, 0, 0], 1),
+        Answer::Hit(way) => Phrase(HIT, 3, [way as u64, 0, 0], 1),
+        Answer::Fill(way) => Phrase(FILL, 4, [way as u64, 0, 0], 1),
         Answer::Evict { way, tag, dirty } => {
-            Phrase(*b"evict  ", 5, [way as u64, tag, dirty as u64], 3)
+            Phrase(EVICT, 5, [way as u64, tag, dirty as u64], 3)
         }
-        Answer::Pass => Phrase(*b"pass   ", 4, [0, 0, 0], 0),
-        Answer::Flush { way, dirty } => Phrase(*b"flush  ", 5, [way as u64, dirty as u64, 0], 2),
-        Answer::Absent => Phrase(*b"absent ", 6, [0, 0, 0], 0),
+        Answer::Pass => Phrase(PASS, 4, [0, 0, 0], 0),
+        Answer::Flush { way, dirty } => Phrase(FLUSH, 5, [way as u64, dirty as u64, 0], 2),
+        Answer::Absent => Phrase(ABSENT, 6, [0, 0, 0], 0),
         Answer::Policy { dropped, dirty } => {
-            Phrase(*b"policy ", 6, [dropped as u64, dirty as u64, 0], 2)
+            Phrase(POLICY, 6, [dropped as u64, dirty as u64, 0], 2)
         }
-        Answer::Refused(number) => Phrase(*b"refused", 7, [number as u64, 0, 0], 1),
+        Answer::Refused(number) => Phrase(REFUSED, 7, [number as u64, 0, 0], 1),
     }
 }
 
