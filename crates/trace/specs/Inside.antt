@@ -7,14 +7,13 @@ use lib.Dec.{ltb}
 use lib.ListN.{length, take}
 use lib.Seq.{sets}
 use Rattle.geometry.specs.declared.Geometry.{Geometry}
-use Rattle.domains.specs.declared.Domains.{Domains}
+use Rattle.domains.specs.Domains.{maxDomains}
 use Rattle.cache.specs.Run.{answersOf, finally}
-use Rattle.cache.specs.Fresh.{fresh}
+use Rattle.cache.specs.Fresh.{freshDomains, fresh}
 use Rattle.cache.specs.Tables.{Tables}
 use Rattle.cache.specs.Step.{State}
 use Rattle.tracefile.specs.File.{lastSteps}
-use Rattle.listing.specs.Listing.{decimal, answerLines, runLines}
-use Rattle.trace.specs.declared.Ran.{Ran}
+use Rattle.listing.specs.Listing.{decimal, answerLines, domainLines, runLines}
 use Rattle.trace.specs.declared.lines.Phrase.{Phrase}
 
 -- An output, and the place in it where the next bytes go.
@@ -52,12 +51,6 @@ runTo g file n i k s w = record {
   text = append (answerLines i (answersOf g (lastSteps file n i k) s)) w;
 }
 
-abbrev pub stateOf : Tables → Domains → State
-stateOf t domains = record { tables = t; domains = domains }
-
-abbrev pub ranOf : Ran → Tables → List ℕ → RunTo
-ranOf r t out = record { state = stateOf t (r .domains); text = writtenOf (r .at) out }
-
 -- What the listing of a file of n steps leaves on tables of their lengths: the tables, and the lines in the output.
 pub record ListedBy : Type 0 where
   pub tables : Tables
@@ -65,6 +58,14 @@ pub record ListedBy : Type 0 where
 
 abbrev pub listedBy : Tables → Written → ListedBy
 listedBy t w = record { tables = t; text = w }
+
+-- The domains' lines after a run.
+abbrev pub endOn : Geometry → RunTo → ListedBy
+endOn g r = listedBy (r .state .tables) (append (domainLines (g .ways) (r .state .domains) 0 maxDomains) (r .text))
+
+-- What a run of all n steps on given tables leaves: the tables, and the lines of the steps and of the domains in the output.
+unfoldable pub ranBy : Geometry → List ℕ → ℕ → Tables → Written → ListedBy
+ranBy g file n t w = endOn g (runTo g file n 0 n (record { tables = t; domains = freshDomains }) w)
 
 unfoldable pub listingBy : Geometry → List ℕ → ℕ → List ℕ → ListedBy
 listingBy g file n out =

@@ -24,7 +24,7 @@ pub fn refused(number: usize, out: &mut [u8], at: usize) -> usize
 }
 
 // The first line: sets, ways, rule and number of steps.
-pub fn head(g: Geometry, steps: usize, out: &mut [u8], at: usize) -> usize
+pub fn head(g: Geometry, steps: u32, out: &mut [u8], at: usize) -> usize
     requires { ⌜ at + 84 ≤ length (now out) ⌝ }
     ensures { λ r. ⌜ writtenOf r (now (out .exit)) ≡ append (headLine g steps) (writtenOf at (now (out .entry))) ⌝ }
     ensures { λ r. ⌜ r ≤ at + 84 ⌝ }
@@ -34,7 +34,7 @@ pub fn head(g: Geometry, steps: usize, out: &mut [u8], at: usize) -> usize
 }
 
 // A step's line: its place, a word and fields.
-fn step(place: usize, word: &[u8], values: &[u64], out: &mut [u8], at: usize) -> usize
+fn step(place: u32, word: &[u8], values: &[u64], out: &mut [u8], at: usize) -> usize
     requires { ⌜ length (now word) ≤ 7 ⌝ }
     requires { ⌜ length (now values) ≤ 3 ⌝ }
     requires { ⌜ at + 92 ≤ length (now out) ⌝ }
@@ -88,7 +88,7 @@ fn said(answer: Answer) -> Phrase
 }
 
 // The line of an answer.
-pub fn answer(place: usize, answer: Answer, out: &mut [u8], at: usize) -> usize
+pub fn answer(place: u32, answer: Answer, out: &mut [u8], at: usize) -> usize
     requires { ⌜ at + 92 ≤ length (now out) ⌝ }
     ensures { λ r. ⌜ writtenOf r (now (out .exit)) ≡ append (line (decimal place ∷ toldAs (answerOf answer))) (writtenOf at (now (out .entry))) ⌝ }
     ensures { λ r. ⌜ r ≤ at + 92 ⌝ }
