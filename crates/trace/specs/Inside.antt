@@ -1,7 +1,7 @@
 -- What the crate's inner functions go by.
 use mathlib.Core.Bool.{cond}
 use mathlib.Core.Path.{_≡_}
-use mathlib.Core.List.{List, _∷_, map}
+use mathlib.Core.List.{List, [], _∷_, map}
 use Prim.Native.Nat.{ℕ, _+_, _≤_}
 use lib.Dec.{ltb}
 use lib.ListN.{length, take}
@@ -28,13 +28,15 @@ writtenOf at out = record { at = at; out = out }
 unfoldable pub append : List ℕ → Written → Written
 append bytes w = record { at = w .at + length bytes; out = sets (w .out) (w .at) bytes }
 
--- A phrase is a word, the first `p .1` bytes of `p .0`, and fields, the first `p .3` numbers of `p .2`.
+-- A phrase is a word, the first `p .1` bytes of `p .0`, and fields, the first `p .5` of its three numbers.
+abbrev pub numbersOf : Phrase → List ℕ
+numbersOf p = p .2 ∷ p .3 ∷ p .4 ∷ []
+
 pub record Says (p : Phrase) (fields : List (List ℕ)) : Type 0 where
-  pub is : take (p .1) (p .0) ∷ map decimal (take (p .3) (p .2)) ≡ fields
+  pub is : take (p .1) (p .0) ∷ map decimal (take (p .5) (numbersOf p)) ≡ fields
   pub inside : p .1 ≤ length (p .0)
   pub short : p .1 ≤ 7
-  pub listed : p .3 ≤ length (p .2)
-  pub few : p .3 ≤ 3
+  pub few : p .5 ≤ 3
 
 -- What stands after field i of n: a space, or the line's end.
 unfoldable pub endOf : ℕ → ℕ → ℕ

@@ -48,7 +48,7 @@ fn step(place: u32, word: &[u8], values: &[u64], out: &mut [u8], at: usize) -> u
 }
 
 // What a line says: a word of at most seven bytes with its length, and at most three fields with their number.
-pub struct Phrase(pub [u8; 7], pub usize, pub [u64; 3], pub usize);
+pub struct Phrase(pub [u8; 7], pub usize, pub u64, pub u64, pub u64, pub usize);
 
 // The words of answers, each in seven bytes.
 const HIT: [u8; 7] = *b"hit    ";
@@ -72,18 +72,16 @@ fn said(answer: Answer) -> Phrase
     ensures { λ r. ⌜ Says r (toldAs (answerOf answer)) ⌝ }
 {
     match answer {
-        Answer::Hit(way) => Phrase(HIT, 3, [way as u64, 0, 0], 1),
-        Answer::Fill(way) => Phrase(FILL, 4, [way as u64, 0, 0], 1),
-        Answer::Evict { way, tag, dirty } => {
-            Phrase(EVICT, 5, [way as u64, tag, dirty as u64], 3)
-        }
-        Answer::Pass => Phrase(PASS, 4, [0, 0, 0], 0),
-        Answer::Flush { way, dirty } => Phrase(FLUSH, 5, [way as u64, dirty as u64, 0], 2),
-        Answer::Absent => Phrase(ABSENT, 6, [0, 0, 0], 0),
+        Answer::Hit(way) => Phrase(HIT, 3, way as u64, 0, 0, 1),
+        Answer::Fill(way) => Phrase(FILL, 4, way as u64, 0, 0, 1),
+        Answer::Evict { way, tag, dirty } => { Phrase(EVICT, 5, way as u64, tag, dirty as u64, 3) }
+        Answer::Pass => Phrase(PASS, 4, 0, 0, 0, 0),
+        Answer::Flush { way, dirty } => Phrase(FLUSH, 5, way as u64, dirty as u64, 0, 2),
+        Answer::Absent => Phrase(ABSENT, 6, 0, 0, 0, 0),
         Answer::Policy { dropped, dirty } => {
-            Phrase(POLICY, 6, [dropped as u64, dirty as u64, 0], 2)
+            Phrase(POLICY, 6, dropped as u64, dirty as u64, 0, 2)
         }
-        Answer::Refused(number) => Phrase(REFUSED, 7, [number as u64, 0, 0], 1),
+        Answer::Refused(number) => Phrase(REFUSED, 7, number as u64, 0, 0, 1),
     }
 }
 
@@ -96,8 +94,8 @@ pub fn answer(place: u32, answer: Answer, out: &mut [u8], at: usize) -> usize
     let said = said(answer);
     let word = said.0;
     let length = said.1;
-    let values = said.2;
-    let count = said.3;
+    let values = [said.2, said.3, said.4];
+    let count = said.5;
     step(place, &word[..length], &values[..count], out, at)
 }
 
