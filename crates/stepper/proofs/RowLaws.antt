@@ -48,18 +48,18 @@ rows-kept a b c d r = record {
   words-long = le-trans (r .words-long) (le-of-eq (sym d));
 }
 
--- The maps of domain d, two bytes each, among the first 64 bytes.
-pub hit-room : {d now long : ℕ} → d < 16 → now ≡ long → 64 ≤ long → 4 * d + 2 ≤ now
-hit-room h e l = omega arith
-
-pub fill-room : {d now long : ℕ} → d < 16 → now ≡ long → 64 ≤ long → 4 * d + 2 + 2 ≤ now
-fill-room h e l = omega arith
+-- The maps of domain d, four bytes, among the first 64.
+pub maps-room : {d now long : ℕ} → d < 16 → now ≡ long → 64 ≤ long → 4 * d + 4 ≤ now
+maps-room h e l = omega arith
 
 -- Tag w of a row's tags.
 pub tag-room : (at : ℕ) {ways w now long : ℕ} → w < ways → now ≡ long → at + 8 * ways ≤ long → at + 8 * w + 8 ≤ now
 tag-room at h e l = omega arith
 
 -- A field of a row, which has 142 bytes at most.
+pub first-room : (at : ℕ) {long : ℕ} → at + 142 ≤ long → at + 6 ≤ long
+first-room at h = omega arith
+
 pub field-room : (at k n : ℕ) {long now : ℕ} → at + 142 ≤ long → now ≡ long → k + n ≤ 142 → at + k + n ≤ now
 field-room at k n h e l = omega arith
 

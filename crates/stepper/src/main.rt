@@ -28,6 +28,11 @@ fn put(value: u64, n: usize, out: &mut [u8], at: usize) -> usize
     at + n
 }
 
+// Three numbers of two bytes as one of six, the first one lowest.
+fn shorts(first: usize, second: u16, third: u16) -> u64 {
+    (first as u64) % 65536 + (second as u64) * 65536 + (third as u64) * 4294967296
+}
+
 // Puts the domains' maps, 64 bytes, at the front.
 fn put_maps(domains: Domains, out: &mut [u8])
     requires { ⌜ 64 ≤ length (now out) ⌝ }
@@ -35,8 +40,7 @@ fn put_maps(domains: Domains, out: &mut [u8])
     let mut d = 0;
     while d < 16 {
         let own = domains.records[d];
-        put(own.hit as u64, 2, out, 4 * d);
-        put(own.fill as u64, 2, out, 4 * d + 2);
+        put(shorts(own.hit as usize, own.fill, 0), 4, out, 4 * d);
         d += 1;
     }
 }
@@ -65,11 +69,6 @@ fn put_tags(tags: &[u64], start: usize, ways: usize, out: &mut [u8], at: usize) 
     at + 8 * ways
 }
 
-// A map as a number of 64 bits.
-fn map_value(map: u16) -> u64 {
-    map as u64
-}
-
 // Puts a set's row.
 fn put_row(
     ways: usize,
@@ -87,9 +86,7 @@ fn put_row(
     requires { ⌜ at + 142 ≤ length (now out) ⌝ }
     ensures { λ r. ⌜ r ≤ at + 142 ⌝ }
 {
-    put(set as u64, 2, out, at);
-    put(map_value(valid[set]), 2, out, at + 2);
-    put(map_value(dirty[set]), 2, out, at + 4);
+    put(shorts(set, valid[set], dirty[set]), 6, out, at);
     put(words[set], 8, out, at + 6);
     put_tags(tags, start_of(set, ways), ways, out, at + 14)
 }
@@ -194,8 +191,7 @@ fn show(
     let from = span.from;
     let to = span.to;
     put_maps(domains, out);
-    put(span.set as u64, 2, out, 64);
-    put((to - from) as u64, 2, out, 66);
+    put(shorts(span.set, (to - from) as u16, 0), 4, out, 64);
     let n = put_rows(ways, from, to, tags, valid, dirty, words, out, 68);
     io::write_all(STDOUT_FILENO, &out[..n]);
 }

@@ -18,7 +18,7 @@ use Rattle.domains.specs.Domains.{domainOf}
 use Rattle.domains.specs.declared.Domain.{Domain}
 use Rattle.domains.specs.declared.Domains.{Domains}
 use Rattle.listing.specs.Listing.{decimal, line, domainLine, domainPart, domainLines}
-use Rattle.trace.specs.Inside.{Written, writtenOf, append, Says}
+use Rattle.trace.specs.Inside.{Written, writtenOf, append, numbersOf, Says}
 use Rattle.trace.specs.declared.lines.Phrase.{Phrase}
 use Rattle.trace.proofs.TextLaws.{append-append, append-none, piece-long}
 
@@ -40,14 +40,14 @@ part-short {n} xs h = omega (arith, length-take n xs)
 
 -- The line of a phrase is that of the word and the fields which it says.
 pub said-line : {p : Phrase} {fields : List (List ℕ)} {r : ℕ} {last : List ℕ} (place : ℕ) (w : Written) → Says p fields
-    → writtenOf r last ≡ append (line (decimal place ∷ take (p .1) (p .0) ∷ map decimal (take (p .3) (p .2)))) w
+    → writtenOf r last ≡ append (line (decimal place ∷ take (p .1) (p .0) ∷ map decimal (take (p .5) (numbersOf p)))) w
     → writtenOf r last ≡ append (line (decimal place ∷ fields)) w
 said-line place w s e = e ∙ ap (λ (fields : List (List ℕ)). append (line (decimal place ∷ fields)) w) (s .is)
 
--- A phrase says the fields that it is equal to, where its two lengths are within their lists and within the longest: each is a test of numbers.
-pub says : {p : Phrase} {fields : List (List ℕ)} → T (leb (p .1) (length (p .0))) → T (leb (p .1) 7) → T (leb (p .3) (length (p .2))) → T (leb (p .3) 3)
-    → take (p .1) (p .0) ∷ map decimal (take (p .3) (p .2)) ≡ fields → Says p fields
-says inside short listed few is = record { is = is; inside = lit≤ inside; short = lit≤ short; listed = lit≤ listed; few = lit≤ few }
+-- A phrase says the fields that it is equal to, where its lengths are within the longest: each is a test of numbers.
+pub says : {p : Phrase} {fields : List (List ℕ)} → T (leb (p .1) (length (p .0))) → T (leb (p .1) 7) → T (leb (p .5) 3)
+    → take (p .1) (p .0) ∷ map decimal (take (p .5) (numbersOf p)) ≡ fields → Says p fields
+says inside short few is = record { is = is; inside = lit≤ inside; short = lit≤ short; few = lit≤ few }
 
 -- An answer without fields is its word's number alone.
 pub bare : (a : Answer) (n : ℕ) → tagOf the-type a ≡ n → (n ≡ 3) ⊎ (n ≡ 5) → answerOf a ≡ n ∷ []

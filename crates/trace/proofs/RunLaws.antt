@@ -17,7 +17,7 @@ use Rattle.cache.specs.Fresh.{freshTables, freshDomains, fresh}
 use Rattle.fresh.specs.Calls.{Made, madeOf, freshOf}
 use Rattle.tracefile.specs.File.{commandAt, lastSteps}
 use Rattle.listing.specs.Listing.{decimal, line, told, answerLines, headLine, domainLines, runLines}
-use Rattle.trace.specs.Inside.{Written, writtenOf, append, RunTo, runTo, listedBy, listingBy}
+use Rattle.trace.specs.Inside.{Written, writtenOf, append, RunTo, runTo, ListedBy, listedBy, endOn, ranBy, listingBy}
 use Rattle.trace.proofs.TextLaws.{append-append, append-none, piece-long}
 
 -- The first of the steps to come, and then the others.
@@ -33,13 +33,13 @@ run-next g file n i k s w o e =
 -- After i steps: the steps to come make the whole.
 pub record Running (g : Geometry) (file : List ℕ) (n : ℕ) (s₀ : State) (out₀ : List ℕ) (at : ℕ) (s : State) (out : List ℕ) (next i : ℕ) : Type 0 where
   pub inside : i ≤ n
-  pub fits : at + 92 * n ≤ length out₀
+  pub fits : at + (92 * n + 2128) ≤ length out₀
   pub behind : next ≤ at + 92 * i
   pub long : length out ≡ length out₀
   pub tables-long : lengths (s .tables) ≡ lengths (s₀ .tables)
   pub is : runTo g file n i (n - i) s (writtenOf next out) ≡ runTo g file n 0 n s₀ (writtenOf at out₀)
 
-pub run-begin : (g : Geometry) (file : List ℕ) (n : ℕ) (s : State) (out : List ℕ) (at : ℕ) → at + 92 * n ≤ length out
+pub run-begin : (g : Geometry) (file : List ℕ) (n : ℕ) (s : State) (out : List ℕ) (at : ℕ) → at + (92 * n + 2128) ≤ length out
     → Running g file n s out at s out at 0
 run-begin g file n s out at h = record {
   inside = omega arith;
@@ -74,11 +74,16 @@ run-turned {g} {file} {n} {s₀} {s} {out₀} {out} {new} {at} {next} {after} {i
           ∙ p .is;
     }
 
-pub run-short : {g : Geometry} {file : List ℕ} {n : ℕ} {s₀ s : State} {out₀ out : List ℕ} {at next i : ℕ}
-    → Running g file n s₀ out₀ at s out next i → next ≤ at + 92 * n
-run-short p = omega arith
+-- Room for the lines of the domains.
+pub run-rest : {g : Geometry} {file : List ℕ} {n : ℕ} {s₀ s : State} {out₀ out : List ℕ} {at next i : ℕ}
+    → Running g file n s₀ out₀ at s out next i → next + 2128 ≤ length out
+run-rest p = omega arith
 
-pub run-end : {g : Geometry} {file : List ℕ} {n : ℕ} {s₀ s : State} {out₀ out : List ℕ} {at next i : ℕ} → Running g file n s₀ out₀ at s out next i → n ≤ i
+pub run-short : {g : Geometry} {file : List ℕ} {n : ℕ} {s₀ s : State} {out₀ out : List ℕ} {at next i r : ℕ}
+    → Running g file n s₀ out₀ at s out next i → r ≤ next + 2128 → r ≤ at + (92 * n + 2128)
+run-short p h = omega arith
+
+run-end : {g : Geometry} {file : List ℕ} {n : ℕ} {s₀ s : State} {out₀ out : List ℕ} {at next i : ℕ} → Running g file n s₀ out₀ at s out next i → n ≤ i
     → record { state = s; text = writtenOf next out } ≡ runTo g file n 0 n s₀ (writtenOf at out₀)
 unfolding runTo lastSteps finally answersOf answerLines
 run-end {g} {file} {n} {s₀} {s} {out₀} {out} {at} {next} {i} p h =
@@ -87,39 +92,44 @@ run-end {g} {file} {n} {s₀} {s} {out₀} {out} {at} {next} {i} p h =
     sym (ap (λ (k : ℕ). runTo g file n i k s w) none ∙ ap (λ (x : Written). record { state = s; text = x }) (append-none w))
     ∙ p .is
 
+pub run-ended : {g : Geometry} {file : List ℕ} {n : ℕ} {s₀ s : State} {out₀ out last : List ℕ} {at next i r : ℕ}
+    → Running g file n s₀ out₀ at s out next i → n ≤ i → s₀ .domains ≡ freshDomains
+    → writtenOf r last ≡ append (domainLines (g .ways) (s .domains) 0 maxDomains) (writtenOf next out)
+    → listedBy (s .tables) (writtenOf r last) ≡ ranBy g file n (s₀ .tables) (writtenOf at out₀)
+unfolding ranBy
+run-ended {g} {file} {n} {s₀} {s} {out₀} {out} {last} {at} p h d e =
+    ap (listedBy (s .tables)) e
+    ∙ ap (endOn g) (run-end p h)
+    ∙ ap (λ (x : Domains). endOn g (runTo g file n 0 n (record { tables = s₀ .tables; domains = x }) (writtenOf at out₀))) d
+
 -- ---- the whole listing
 
 -- An output of 393,216 bytes has room for the first line, the lines of 4,096 steps and those of the domains.
-pub room-for-steps : {head n now long : ℕ} → head ≤ 84 → now ≡ long → n ≤ 4096 → 393216 ≤ long → head + 92 * n ≤ now
-room-for-steps h e s l = omega arith
+pub room-for-head : {long : ℕ} → 393216 ≤ long → 0 + 84 ≤ long
+room-for-head l = omega arith
 
-pub room-for-domains : {at head n now long : ℕ} → at ≤ head + 92 * n → head ≤ 84 → now ≡ long → n ≤ 4096 → 393216 ≤ long → at + 2128 ≤ now
-room-for-domains a h e s l = omega arith
+pub room-for-lines : {head n now long : ℕ} → head ≤ 84 → now ≡ long → n ≤ 4096 → 393216 ≤ long → head + (92 * n + 2128) ≤ now
+room-for-lines h e s l = omega arith
 
-pub listing-short : {r at head n : ℕ} → r ≤ at + 2128 → at ≤ head + 92 * n → head ≤ 84 → n ≤ 4096 → r ≤ 393216
-listing-short r a h s = omega arith
+pub listing-short : {r head n : ℕ} → r ≤ head + (92 * n + 2128) → head ≤ 84 → n ≤ 4096 → r ≤ 393216
+listing-short r h s = omega arith
 
 fresh-is : (g : Geometry) (t new : Tables) (n : ℕ) → within g ≡ true → sized g (lengths t) ≡ true → madeOf n new ≡ freshOf g t → new ≡ freshTables g
 unfolding freshOf
 fresh-is g t new n w z e = ap (λ (m : Made). m .tables) (rw (w, z) at e)
 
-pub listing-is : (g : Geometry) (file : List ℕ) (n : ℕ) (out₀ : List ℕ) (t₀ t : Tables) (domains : Domains) (w : Written) (r : RunTo)
-    {made at : ℕ} {out : List ℕ}
-    → within g ≡ true → sized g (lengths t₀) ≡ true → madeOf made t ≡ freshOf g t₀ → domains ≡ freshDomains
-    → w ≡ append (headLine g n) (writtenOf 0 out₀) → r ≡ runTo g file n 0 n (record { tables = t; domains = domains }) w
-    → writtenOf at out ≡ append (domainLines (g .ways) (r .state .domains) 0 maxDomains) (r .text)
-    → listedBy (r .state .tables) (writtenOf at out) ≡ listingBy g file n out₀
-unfolding listingBy runLines runTo fresh
-listing-is g file n out₀ t₀ t domains w r {made} {at} {out} l z m d h e f =
+pub listing-is : (g : Geometry) (file : List ℕ) (n : ℕ) (out₀ : List ℕ) (t₀ t : Tables) (w : Written) (l : ListedBy) {made : ℕ}
+    → within g ≡ true → sized g (lengths t₀) ≡ true → madeOf made t ≡ freshOf g t₀
+    → w ≡ append (headLine g n) (writtenOf 0 out₀) → l ≡ ranBy g file n t w → l ≡ listingBy g file n out₀
+unfolding listingBy runLines ranBy runTo fresh
+listing-is g file n out₀ t₀ t w l {made} g-in z m h e =
     let cs : List Command = lastSteps file n 0 n in
     let w₀ : Written = writtenOf 0 out₀ in
     let head : List ℕ = headLine g n in
     let answers : List ℕ = answerLines 0 (answersOf g cs (fresh g)) in
     let named : List ℕ = domainLines (g .ways) (finally g cs (fresh g) .domains) 0 maxDomains in
-    let start : record { tables = t; domains = domains } ≡ fresh g = λ j. record { tables = fresh-is g t₀ t made l z m j; domains = d j } in
-    let ran : r ≡ runTo g file n 0 n (fresh g) (append head w₀) = e ∙ ap₂ (runTo g file n 0 n) start h in
-    ap₂ listedBy (ap (λ (x : RunTo). x .state .tables) ran)
-    (f
-    ∙ ap (λ (x : RunTo). append (domainLines (g .ways) (x .state .domains) 0 maxDomains) (x .text)) ran
-    ∙ append-append answers named (append head w₀)
+    e
+    ∙ ap₂ (ranBy g file n) (fresh-is g t₀ t made g-in z m) h
+    ∙ ap (listedBy (finally g cs (fresh g) .tables))
+    (append-append answers named (append head w₀)
     ∙ append-append head (answers ++ named) w₀)

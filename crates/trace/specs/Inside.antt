@@ -1,20 +1,19 @@
 -- What the crate's inner functions go by.
 use mathlib.Core.Bool.{cond}
 use mathlib.Core.Path.{_≡_}
-use mathlib.Core.List.{List, _∷_, map}
+use mathlib.Core.List.{List, [], _∷_, map}
 use Prim.Native.Nat.{ℕ, _+_, _≤_}
 use lib.Dec.{ltb}
 use lib.ListN.{length, take}
 use lib.Seq.{sets}
 use Rattle.geometry.specs.declared.Geometry.{Geometry}
-use Rattle.domains.specs.declared.Domains.{Domains}
+use Rattle.domains.specs.Domains.{maxDomains}
 use Rattle.cache.specs.Run.{answersOf, finally}
-use Rattle.cache.specs.Fresh.{fresh}
+use Rattle.cache.specs.Fresh.{freshDomains, fresh}
 use Rattle.cache.specs.Tables.{Tables}
 use Rattle.cache.specs.Step.{State}
 use Rattle.tracefile.specs.File.{lastSteps}
-use Rattle.listing.specs.Listing.{decimal, answerLines, runLines}
-use Rattle.trace.specs.declared.Ran.{Ran}
+use Rattle.listing.specs.Listing.{decimal, answerLines, domainLines, runLines}
 use Rattle.trace.specs.declared.lines.Phrase.{Phrase}
 
 -- An output, and the place in it where the next bytes go.
@@ -29,13 +28,15 @@ writtenOf at out = record { at = at; out = out }
 unfoldable pub append : List ℕ → Written → Written
 append bytes w = record { at = w .at + length bytes; out = sets (w .out) (w .at) bytes }
 
--- A phrase is a word, the first `p .1` bytes of `p .0`, and fields, the first `p .3` numbers of `p .2`.
+-- A phrase is a word, the first `p .1` bytes of `p .0`, and fields, the first `p .5` of its three numbers.
+abbrev pub numbersOf : Phrase → List ℕ
+numbersOf p = p .2 ∷ p .3 ∷ p .4 ∷ []
+
 pub record Says (p : Phrase) (fields : List (List ℕ)) : Type 0 where
-  pub is : take (p .1) (p .0) ∷ map decimal (take (p .3) (p .2)) ≡ fields
+  pub is : take (p .1) (p .0) ∷ map decimal (take (p .5) (numbersOf p)) ≡ fields
   pub inside : p .1 ≤ length (p .0)
   pub short : p .1 ≤ 7
-  pub listed : p .3 ≤ length (p .2)
-  pub few : p .3 ≤ 3
+  pub few : p .5 ≤ 3
 
 -- What stands after field i of n: a space, or the line's end.
 unfoldable pub endOf : ℕ → ℕ → ℕ
@@ -52,12 +53,6 @@ runTo g file n i k s w = record {
   text = append (answerLines i (answersOf g (lastSteps file n i k) s)) w;
 }
 
-abbrev pub stateOf : Tables → Domains → State
-stateOf t domains = record { tables = t; domains = domains }
-
-abbrev pub ranOf : Ran → Tables → List ℕ → RunTo
-ranOf r t out = record { state = stateOf t (r .domains); text = writtenOf (r .at) out }
-
 -- What the listing of a file of n steps leaves on tables of their lengths: the tables, and the lines in the output.
 pub record ListedBy : Type 0 where
   pub tables : Tables
@@ -65,6 +60,14 @@ pub record ListedBy : Type 0 where
 
 abbrev pub listedBy : Tables → Written → ListedBy
 listedBy t w = record { tables = t; text = w }
+
+-- The domains' lines after a run.
+abbrev pub endOn : Geometry → RunTo → ListedBy
+endOn g r = listedBy (r .state .tables) (append (domainLines (g .ways) (r .state .domains) 0 maxDomains) (r .text))
+
+-- What a run of all n steps on given tables leaves: the tables, and the lines of the steps and of the domains in the output.
+unfoldable pub ranBy : Geometry → List ℕ → ℕ → Tables → Written → ListedBy
+ranBy g file n t w = endOn g (runTo g file n 0 n (record { tables = t; domains = freshDomains }) w)
 
 unfoldable pub listingBy : Geometry → List ℕ → ℕ → List ℕ → ListedBy
 listingBy g file n out =

@@ -4,7 +4,6 @@ mod text;
 
 use cache::Stepped;
 use command::Answer;
-use domains::Domains;
 use geometry::Geometry;
 ghost use mathlib.Core.Path.{_≡_};
 ghost use mathlib.Core.Bool.{true};
@@ -16,15 +15,9 @@ ghost use Rattle.cache.specs.Step.{tablesOf};
 ghost use Rattle.cache.specs.Tables.{lengths};
 ghost use Rattle.tracefile.specs.File.{fileRefusal};
 ghost use Rattle.trace.specs.Calls.{listedOf, listOf};
-ghost use Rattle.trace.specs.Inside.{writtenOf, stateOf, ranOf, runTo, listedBy, listingBy, Roomy};
+ghost use Rattle.trace.specs.Inside.{writtenOf, listedBy, ranBy, listingBy, Roomy};
 
-// What a run leaves beside the tables: the place after its lines, and the domains.
-pub struct Ran {
-    pub at: usize,
-    pub domains: Domains,
-}
-
-// The lines of a file's steps, taken one after another on the tables and domains as they are.
+// The lines of a file's steps, taken one after another on the tables as they are from fresh domains on, and those of the domains.
 fn run(
     g: Geometry,
     file: &[u8],
@@ -33,21 +26,19 @@ fn run(
     valid: &mut [u16],
     dirty: &mut [u16],
     words: &mut [u64],
-    domains: Domains,
     out: &mut [u8],
     at: usize,
-) -> Ran
-    requires { ⌜ at + 92 * steps ≤ length (now out) ⌝ }
+) -> usize
+    requires { ⌜ at + (92 * steps + 2128) ≤ length (now out) ⌝ }
     ensures { λ r. ⌜
-        ranOf r (tablesOf (now (tags .exit)) (now (valid .exit)) (now (dirty .exit)) (now (words .exit))) (now (out .exit))
-        ≡ runTo g (now (file .entry)) steps 0 steps
-        (stateOf (tablesOf (now (tags .entry)) (now (valid .entry)) (now (dirty .entry)) (now (words .entry))) domains)
-        (writtenOf at (now (out .entry))) ⌝ }
-    ensures { λ r. ⌜ r .at ≤ at + 92 * steps ⌝ }
+        listedBy (tablesOf (now (tags .exit)) (now (valid .exit)) (now (dirty .exit)) (now (words .exit))) (writtenOf r (now (out .exit)))
+        ≡ ranBy g (now (file .entry)) steps
+        (tablesOf (now (tags .entry)) (now (valid .entry)) (now (dirty .entry)) (now (words .entry))) (writtenOf at (now (out .entry))) ⌝ }
+    ensures { λ r. ⌜ r ≤ at + (92 * steps + 2128) ⌝ }
 {
     let mut last = Stepped {
         answer: Answer::Absent,
-        domains,
+        domains: fresh::fresh_domains(),
     };
     let mut next = at;
     let mut i = 0;
@@ -65,14 +56,10 @@ fn run(
             command.argument,
         );
         let answer = last.answer;
-        next = lines::answer(i as usize, answer, out, next);
+        next = lines::answer(i, answer, out, next);
         i += 1;
     }
-    let after = last.domains;
-    Ran {
-        at: next,
-        domains: after,
-    }
+    lines::domains(g.ways, last.domains, out, next)
 }
 
 // The listing of a file that is not refused, on tables of its lengths.
@@ -96,20 +83,8 @@ fn listing(
     ensures { λ r. ⌜ r ≤ 393216 ⌝ }
 {
     fresh::fresh_tables(g, tags, valid, dirty, words);
-    let head = lines::head(g, steps as usize, out, 0);
-    let ran = run(
-        g,
-        file,
-        steps,
-        tags,
-        valid,
-        dirty,
-        words,
-        fresh::fresh_domains(),
-        out,
-        head,
-    );
-    lines::domains(g.ways, ran.domains, out, ran.at)
+    let head = lines::head(g, steps, out, 0);
+    run(g, file, steps, tags, valid, dirty, words, out, head)
 }
 
 // Lists a file that is not refused.

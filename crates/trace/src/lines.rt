@@ -24,7 +24,7 @@ pub fn refused(number: usize, out: &mut [u8], at: usize) -> usize
 }
 
 // The first line: sets, ways, rule and number of steps.
-pub fn head(g: Geometry, steps: usize, out: &mut [u8], at: usize) -> usize
+pub fn head(g: Geometry, steps: u32, out: &mut [u8], at: usize) -> usize
     requires { ⌜ at + 84 ≤ length (now out) ⌝ }
     ensures { λ r. ⌜ writtenOf r (now (out .exit)) ≡ append (headLine g steps) (writtenOf at (now (out .entry))) ⌝ }
     ensures { λ r. ⌜ r ≤ at + 84 ⌝ }
@@ -34,7 +34,7 @@ pub fn head(g: Geometry, steps: usize, out: &mut [u8], at: usize) -> usize
 }
 
 // A step's line: its place, a word and fields.
-fn step(place: usize, word: &[u8], values: &[u64], out: &mut [u8], at: usize) -> usize
+fn step(place: u32, word: &[u8], values: &[u64], out: &mut [u8], at: usize) -> usize
     requires { ⌜ length (now word) ≤ 7 ⌝ }
     requires { ⌜ length (now values) ≤ 3 ⌝ }
     requires { ⌜ at + 92 ≤ length (now out) ⌝ }
@@ -48,30 +48,45 @@ fn step(place: usize, word: &[u8], values: &[u64], out: &mut [u8], at: usize) ->
 }
 
 // What a line says: a word of at most seven bytes with its length, and at most three fields with their number.
-pub struct Phrase(pub [u8; 7], pub usize, pub [u64; 3], pub usize);
+pub struct Phrase(pub [u8; 7], pub usize, pub u64, pub u64, pub u64, pub usize);
+
+// The words of answers, each in seven bytes.
+const HIT: [u8; 7] = *b"hit    ";
+
+const FILL: [u8; 7] = *b"fill   ";
+
+const EVICT: [u8; 7] = *b"evict  ";
+
+const PASS: [u8; 7] = *b"pass   ";
+
+const FLUSH: [u8; 7] = *b"flush  ";
+
+const ABSENT: [u8; 7] = *b"absent ";
+
+const POLICY: [u8; 7] = *b"policy ";
+
+const REFUSED: [u8; 7] = *b"refused";
 
 // An answer's word and fields.
 fn said(answer: Answer) -> Phrase
     ensures { λ r. ⌜ Says r (toldAs (answerOf answer)) ⌝ }
 {
     match answer {
-        Answer::Hit(way) => Phrase(*b"hit    ", 3, [way as u64, 0, 0], 1),
-        Answer::Fill(way) => Phrase(*b"fill   ", 4, [way as u64, 0, 0], 1),
-        Answer::Evict { way, tag, dirty } => {
-            Phrase(*b"evict  ", 5, [way as u64, tag, dirty as u64], 3)
-        }
-        Answer::Pass => Phrase(*b"pass   ", 4, [0, 0, 0], 0),
-        Answer::Flush { way, dirty } => Phrase(*b"flush  ", 5, [way as u64, dirty as u64, 0], 2),
-        Answer::Absent => Phrase(*b"absent ", 6, [0, 0, 0], 0),
+        Answer::Hit(way) => Phrase(HIT, 3, way as u64, 0, 0, 1),
+        Answer::Fill(way) => Phrase(FILL, 4, way as u64, 0, 0, 1),
+        Answer::Evict { way, tag, dirty } => { Phrase(EVICT, 5, way as u64, tag, dirty as u64, 3) }
+        Answer::Pass => Phrase(PASS, 4, 0, 0, 0, 0),
+        Answer::Flush { way, dirty } => Phrase(FLUSH, 5, way as u64, dirty as u64, 0, 2),
+        Answer::Absent => Phrase(ABSENT, 6, 0, 0, 0, 0),
         Answer::Policy { dropped, dirty } => {
-            Phrase(*b"policy ", 6, [dropped as u64, dirty as u64, 0], 2)
+            Phrase(POLICY, 6, dropped as u64, dirty as u64, 0, 2)
         }
-        Answer::Refused(number) => Phrase(*b"refused", 7, [number as u64, 0, 0], 1),
+        Answer::Refused(number) => Phrase(REFUSED, 7, number as u64, 0, 0, 1),
     }
 }
 
 // The line of an answer.
-pub fn answer(place: usize, answer: Answer, out: &mut [u8], at: usize) -> usize
+pub fn answer(place: u32, answer: Answer, out: &mut [u8], at: usize) -> usize
     requires { ⌜ at + 92 ≤ length (now out) ⌝ }
     ensures { λ r. ⌜ writtenOf r (now (out .exit)) ≡ append (line (decimal place ∷ toldAs (answerOf answer))) (writtenOf at (now (out .entry))) ⌝ }
     ensures { λ r. ⌜ r ≤ at + 92 ⌝ }
@@ -79,8 +94,8 @@ pub fn answer(place: usize, answer: Answer, out: &mut [u8], at: usize) -> usize
     let said = said(answer);
     let word = said.0;
     let length = said.1;
-    let values = said.2;
-    let count = said.3;
+    let values = [said.2, said.3, said.4];
+    let count = said.5;
     step(place, &word[..length], &values[..count], out, at)
 }
 

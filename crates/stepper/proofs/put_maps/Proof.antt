@@ -5,7 +5,7 @@ use native.Mathlib.Omega.{arith}
 use lib.ListN.{length}
 use borrow.Author.Count.{falls}
 use borrow.Author.Needs.{needs}
-use Rattle.stepper.proofs.RowLaws.{hit-room, fill-room}
+use Rattle.stepper.proofs.RowLaws.{maps-room}
 use Rattle.stepper.proofs.put_maps.Statement.{statement}
 use Rattle.stepper.proofs.put_maps.Tie as tie
 
@@ -24,45 +24,30 @@ mul-own c = omega arith
 element-copy-out-own : tie.Need-element-copy-out-own Inv-loop μ-loop
 element-copy-out-own c = (c .loop-test .taken)
 
-cast-put : tie.Need-cast-put Inv-loop μ-loop
-cast-put c = search needs
+cast-shorts : tie.Need-cast-shorts Inv-loop μ-loop
+cast-shorts c = search needs
+
+shorts-requires : tie.Need-shorts-requires Inv-loop μ-loop
+shorts-requires c κs = tt
 
 mul-put : tie.Need-mul-put Inv-loop μ-loop
-mul-put c = omega (arith, c .before .before .before .loop-test .taken)
+mul-put c = omega (arith, c .before .before .before .before .loop-test .taken)
 
 put-requires : tie.Need-put-requires Inv-loop μ-loop
 put-requires c κs =
-    let asked = c .before .before .before in
-    hit-room (asked .loop-test .taken) (asked .before .loop .inv) (asked .before .before .before .pre)
-
-cast-put-2 : tie.Need-cast-put-2 Inv-loop μ-loop
-cast-put-2 c = search needs
-
-mul-put-2 : tie.Need-mul-put-2 Inv-loop μ-loop
-mul-put-2 c = omega (arith, c .before .before .before .before .before .before .before .before .loop-test .taken)
-
-add-put : tie.Need-add-put Inv-loop μ-loop
-add-put c = omega (arith, c .before .before .before .before .before .before .before .before .loop-test .taken)
-
-put-requires-2 : tie.Need-put-requires-2 Inv-loop μ-loop
-put-requires-2 c κs =
-    let hit = c .before .before .before .before in
-    let asked = hit .before .before .before .before in
-    fill-room (asked .loop-test .taken) (hit .put .kept .1 .1 .0 ∙ asked .before .loop .inv) (asked .before .before .before .pre)
+    let asked = c .before .before .before .before in
+    maps-room (asked .loop-test .taken) (asked .before .loop .inv) (asked .before .before .before .pre)
 
 add-d : tie.Need-add-d Inv-loop μ-loop
-add-d c = omega arith
+add-d c = omega (arith, c .before .before .before .before .before .before .before .loop-test .taken)
 
 loop-less : tie.Need-loop-less Inv-loop μ-loop
 loop-less c =
-    let hit = c .before .before .before .before .before .before .before in
-    let asked = hit .before .before .before .before in
+    let asked = c .before .before .before .before .before .before .before in
     falls 16 (asked .before .loop .d) (asked .loop-test .taken)
 
 loop-again : tie.Need-loop-again Inv-loop μ-loop
-loop-again c =
-    let hit = c .before .before .before .before .before .before .before in
-    c .before .before .put2 .kept .1 .1 .0 ∙ hit .put .kept .1 .1 .0 ∙ hit .before .before .before .before .before .loop .inv
+loop-again c = c .before .before .put .kept .1 .1 .0 ∙ c .before .before .before .before .before .before .before .before .loop .inv
 
 same-length : tie.Need-same-length Inv-loop μ-loop
 same-length c = c .before .loop .inv
@@ -79,13 +64,10 @@ put-maps-spec =
     loop-holds
     mul-own
     element-copy-out-own
-    cast-put
+    cast-shorts
+    shorts-requires
     mul-put
     put-requires
-    cast-put-2
-    mul-put-2
-    add-put
-    put-requires-2
     add-d
     loop-less
     loop-again

@@ -7,14 +7,17 @@ use Rattle.stepper.proofs.show.Tie as tie
 put-maps-requires : tie.Need-put-maps-requires
 put-maps-requires c κs = search needs
 
+sub-shorts : tie.Need-sub-shorts
+sub-shorts c = search needs
+
+cast-shorts : tie.Need-cast-shorts
+cast-shorts c = search needs
+
+shorts-requires : tie.Need-shorts-requires
+shorts-requires c κs = tt
+
 put-requires : tie.Need-put-requires
 put-requires c κs = search needs
-
-sub-put : tie.Need-sub-put
-sub-put c = search needs
-
-put-requires-2 : tie.Need-put-requires-2
-put-requires-2 c κs = search needs
 
 put-rows-requires : tie.Need-put-rows-requires
 put-rows-requires c κs = search needs
@@ -31,10 +34,8 @@ write-all-requires c κs = search needs
 same-length : tie.Need-same-length
 same-length c =
     let rows = c .before .before .before .before in
-    let counted = rows .before .before .before .before in
-    let named = counted .before .before .before .before in
-    rows .put-rows .kept .1 .1 .1 .1 .1 .1 .1 .0 ∙ counted .put2 .kept .1 .1 .0 ∙ named .put .kept .1 .1 .0
-    ∙ named .before .before .before .before .put-maps .kept .1 .0
+    let named = rows .before .before .before .before in
+    rows .put-rows .kept .1 .1 .1 .1 .1 .1 .1 .0 ∙ named .put .kept .1 .1 .0 ∙ named .before .before .before .before .before .put-maps .kept .1 .0
 
 returns : tie.Need-returns
 returns c = search needs
@@ -44,9 +45,10 @@ show-spec =
     tie.close
     (tie.spec
     put-maps-requires
+    sub-shorts
+    cast-shorts
+    shorts-requires
     put-requires
-    sub-put
-    put-requires-2
     put-rows-requires
     slice-reshare-prefix-write-all
     slice-aggregate-write-all

@@ -1,41 +1,38 @@
 -- `trace::run` meets its contract. The invariant: the steps to come make the whole.
-use mathlib.Core.Path.{ap}
+use mathlib.Core.Path.{ap, _∙_}
 use Prim.Native.Nat.{_-_}
 use borrow.Author.Count.{falls}
 use borrow.Author.Needs.{needs}
 use Rattle.geometry.specs.Geometry.{Lengths}
 use Rattle.cache.specs.Step.{tablesOf, outcome}
 use Rattle.command.specs.Command.{commandIs}
-use Rattle.tracefile.proofs.PlaceLaws.{place-fits, next-fits}
-use Rattle.trace.specs.Inside.{stateOf}
-use Rattle.trace.proofs.RunLaws.{Running, run-begin, run-room, run-turned, run-short, run-end}
+use Rattle.tracefile.proofs.PlaceLaws.{next-fits}
+use Rattle.trace.proofs.RunLaws.{Running, run-begin, run-room, run-turned, run-rest, run-short, run-ended}
 use Rattle.trace.proofs.run.Statement.{statement}
 use Rattle.trace.proofs.run.Tie as tie
 
 abbrev Inv-loop : tie.InvT-loop
 Inv-loop g file steps tags₀ valid₀ dirty₀ words₀ out₀ at last₀ next₀ i₀ tags valid dirty words out last next i =
-    Running g file steps (stateOf (tablesOf tags₀ valid₀ dirty₀ words₀) (last₀ .domains)) out₀ at
-    (stateOf (tablesOf tags valid dirty words) (last .domains)) out next i
+    Running g file steps (record { tables = tablesOf tags₀ valid₀ dirty₀ words₀; domains = last₀ .domains }) out₀ at
+    (record { tables = tablesOf tags valid dirty words; domains = last .domains }) out next i
 
 abbrev μ-loop : tie.MeasureT-loop
 μ-loop g file steps tags₀ valid₀ dirty₀ words₀ out₀ at last₀ next₀ i₀ tags valid dirty words out last next i = steps - i
 
+fresh-domains-requires : tie.Need-fresh-domains-requires Inv-loop μ-loop
+fresh-domains-requires c κs = tt
+
 loop-holds : tie.Need-loop-holds Inv-loop μ-loop
-loop-holds c = run-begin _ _ _ _ _ _ (c .before .before .before .before .before .before .pre)
+loop-holds c = run-begin _ _ _ _ _ _ (c .before .before .before .before .before .before .before .pre)
 
 command-at-requires : tie.Need-command-at-requires Inv-loop μ-loop
-command-at-requires c κs = search needs
+command-at-requires c κs = tt
 
 cast-step : tie.Need-cast-step Inv-loop μ-loop
 cast-step c = search needs
 
 step-requires : tie.Need-step-requires Inv-loop μ-loop
-step-requires c κs = search needs
-
-cast-answer : tie.Need-cast-answer Inv-loop μ-loop
-cast-answer c =
-    let asked = c .before .before .before .before .before .before .before .before .before .before .before .before .before .before .before in
-    place-fits (asked .loop-test .taken) (asked .before .before .before .before .before .before .before .before .fits .steps)
+step-requires c κs = tt
 
 answer-requires : tie.Need-answer-requires Inv-loop μ-loop
 answer-requires c κs =
@@ -44,15 +41,13 @@ answer-requires c κs =
 
 add-i : tie.Need-add-i Inv-loop μ-loop
 add-i c =
-    let stepped = c .before .before .before .before .before .before .before .before .before .before .before .before in
-    let asked = stepped .before .before .before .before .before .before .before in
-    next-fits (asked .loop-test .taken) (asked .before .before .before .before .before .before .before .before .fits .steps)
+    let asked = c .before .before .before .before .before .before .before .before .before .before .before .before .before .before .before .before .before .before .before in
+    next-fits (asked .loop-test .taken) (asked .before .before .before .before .before .before .before .before .before .fits .steps)
 
 loop-less : tie.Need-loop-less Inv-loop μ-loop
 loop-less c =
-    let stepped = c .before .before .before .before .before .before .before .before .before .before .before .before in
-    let asked = stepped .before .before .before .before .before .before .before in
-    falls (asked .before .before .before .before .before .before .before .before .args .steps) (asked .before .loop .i) (asked .loop-test .taken)
+    let asked = c .before .before .before .before .before .before .before .before .before .before .before .before .before .before .before .before .before .before .before in
+    falls (asked .before .before .before .before .before .before .before .before .before .args .steps) (asked .before .loop .i) (asked .loop-test .taken)
 
 loop-again : tie.Need-loop-again Inv-loop μ-loop
 loop-again c =
@@ -69,23 +64,32 @@ loop-again c =
     (λ j. record { tags = kept .1 .0 j; valid = kept .1 .1 .0 j; dirty = kept .1 .1 .1 .0 j; words = kept .1 .1 .1 .1 .0 j })
     (answered .ensures .0) (answered .ensures .1)
 
+domains-requires : tie.Need-domains-requires Inv-loop μ-loop
+domains-requires c κs = run-rest (c .before .before .loop .inv)
+
 same-length : tie.Need-same-length Inv-loop μ-loop
-same-length c = ap (λ (n : Lengths). n .tags) (c .before .before .loop .inv .tables-long)
+same-length c = ap (λ (n : Lengths). n .tags) (c .before .before .before .before .before .loop .inv .tables-long)
 
 same-length-2 : tie.Need-same-length-2 Inv-loop μ-loop
-same-length-2 c = ap (λ (n : Lengths). n .valid) (c .before .before .loop .inv .tables-long)
+same-length-2 c = ap (λ (n : Lengths). n .valid) (c .before .before .before .before .before .loop .inv .tables-long)
 
 same-length-3 : tie.Need-same-length-3 Inv-loop μ-loop
-same-length-3 c = ap (λ (n : Lengths). n .dirty) (c .before .before .loop .inv .tables-long)
+same-length-3 c = ap (λ (n : Lengths). n .dirty) (c .before .before .before .before .before .loop .inv .tables-long)
 
 same-length-4 : tie.Need-same-length-4 Inv-loop μ-loop
-same-length-4 c = ap (λ (n : Lengths). n .words) (c .before .before .loop .inv .tables-long)
+same-length-4 c = ap (λ (n : Lengths). n .words) (c .before .before .before .before .before .loop .inv .tables-long)
 
 same-length-5 : tie.Need-same-length-5 Inv-loop μ-loop
-same-length-5 c = c .before .before .loop .inv .long
+same-length-5 c = c .before .before .domains .kept .1 .1 .0 ∙ c .before .before .before .before .before .loop .inv .long
 
 returns : tie.Need-returns Inv-loop μ-loop
-returns c = (run-end (c .before .before .loop .inv) (c .before .loop-test .left), run-short (c .before .before .loop .inv))
+returns c =
+    let named = c .before .before .domains in
+    let left = c .before .before .before .before in
+    let looped = left .before .loop in (
+      run-ended (looped .inv) (left .loop-test .left) (left .before .before .fresh-domains .ensures) (named .ensures .0),
+      run-short (looped .inv) (named .ensures .1),
+    )
 
 pub run-spec : {M : Type 1} → statement M
 run-spec =
@@ -93,15 +97,16 @@ run-spec =
     (tie.spec
     Inv-loop
     μ-loop
+    fresh-domains-requires
     loop-holds
     command-at-requires
     cast-step
     step-requires
-    cast-answer
     answer-requires
     add-i
     loop-less
     loop-again
+    domains-requires
     same-length
     same-length-2
     same-length-3

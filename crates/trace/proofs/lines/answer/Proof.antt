@@ -1,7 +1,7 @@
 -- `trace::lines::answer` meets its contract.
 use mathlib.Core.Path.{sym}
 use lib.Seq.{length-take-le}
-use Rattle.trace.specs.Inside.{writtenOf}
+use Rattle.trace.specs.Inside.{writtenOf, numbersOf}
 use Rattle.trace.proofs.LineLaws.{part-short, said-line}
 use Rattle.trace.proofs.lines.answer.Statement.{statement}
 use Rattle.trace.proofs.lines.answer.Tie as tie
@@ -10,26 +10,26 @@ said-requires : tie.Need-said-requires
 said-requires c κs = tt
 
 array-share-prefix-word : tie.Need-array-share-prefix-word
-array-share-prefix-word c = c .before .before .said .ensures .inside
+array-share-prefix-word c = c .before .said .ensures .inside
 
 slice-aggregate-step : tie.Need-slice-aggregate-step
 slice-aggregate-step c =
-    let said = c .before .before .before .said in
+    let said = c .before .before .said in
     sym (length-take-le (said .result .1) (said .result .0) (said .ensures .inside))
 
 array-share-prefix-values : tie.Need-array-share-prefix-values
-array-share-prefix-values c = c .before .before .before .said .ensures .listed
+array-share-prefix-values c = c .before .before .said .ensures .few
 
 slice-aggregate-step-2 : tie.Need-slice-aggregate-step-2
 slice-aggregate-step-2 c =
-    let said = c .before .before .before .before .said in
-    sym (length-take-le (said .result .3) (said .result .2) (said .ensures .listed))
+    let said = c .before .before .before .said in
+    sym (length-take-le (said .result .5) (numbersOf (said .result)) (said .ensures .few))
 
 step-requires : tie.Need-step-requires
 step-requires c κs =
-    let said = c .before .before .before .before .before .said in (
+    let said = c .before .before .before .before .said in (
       part-short (said .result .0) (said .ensures .short),
-      (part-short (said .result .2) (said .ensures .few), c .before .before .before .before .before .before .before .pre),
+      (part-short (numbersOf (said .result)) (said .ensures .few), c .before .before .before .before .before .before .pre),
     )
 
 same-length : tie.Need-same-length
@@ -38,8 +38,8 @@ same-length c = c .before .before .step .kept .1 .1 .1 .0
 returns : tie.Need-returns
 returns c =
     let stepped = c .before .before .step in
-    let said = c .before .before .before .before .before .before .before .before .said in
-    let given = c .before .before .before .before .before .before .before .before .before .before .args in
+    let said = c .before .before .before .before .before .before .before .said in
+    let given = c .before .before .before .before .before .before .before .before .before .args in
     (said-line (given .place) (writtenOf (given .at) (given .out .now)) (said .ensures) (stepped .ensures .0), stepped .ensures .1)
 
 pub answer-spec : {M : Type 1} → statement M

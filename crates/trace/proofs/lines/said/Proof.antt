@@ -16,8 +16,8 @@ enum-known-answer-2 c = search needs
 enum-known-answer-3 : tie.Need-enum-known-answer-3
 enum-known-answer-3 c = search needs
 
-cast-t32 : tie.Need-cast-t32
-cast-t32 c = search needs
+cast-t19 : tie.Need-cast-t19
+cast-t19 c = search needs
 
 enum-told : tie.Need-enum-told
 enum-told c = search needs
@@ -25,8 +25,8 @@ enum-told c = search needs
 enum-known-answer-4 : tie.Need-enum-known-answer-4
 enum-known-answer-4 c = search needs
 
-cast-t40 : tie.Need-cast-t40
-cast-t40 c = search needs
+cast-t23 : tie.Need-cast-t23
+cast-t23 c = search needs
 
 enum-told-2 : tie.Need-enum-told-2
 enum-told-2 c = search needs
@@ -39,35 +39,35 @@ enum-known-answer-6 c = search needs
 
 returns : tie.Need-returns
 unfolding told
-returns c = says tt tt tt tt (rw (c .before .before .before .answer .given .1))
+returns c = says tt tt tt (rw (c .before .answer .given .1))
 
 returns-2 : tie.Need-returns-2
 unfolding told
-returns-2 c = says tt tt tt tt (rw (c .before .before .before .answer2 .given .1))
+returns-2 c = says tt tt tt (rw (c .before .answer2 .given .1))
 
 returns-3 : tie.Need-returns-3
 unfolding told
-returns-3 c = says tt tt tt tt (rw (c .before .before .before .answer3 .given .1))
+returns-3 c = says tt tt tt (rw (c .before .answer3 .given .1))
 
 returns-4 : tie.Need-returns-4
 unfolding told
-returns-4 c = says tt tt tt tt (rw (bare (c .before .before .before .before .args .answer) 3 (c .before .before .before .match .keys4) (inl refl)))
+returns-4 c = says tt tt tt (rw (bare (c .before .before .args .answer) 3 (c .before .match .keys4) (inl refl)))
 
 returns-5 : tie.Need-returns-5
 unfolding told
-returns-5 c = says tt tt tt tt (rw (c .before .before .before .answer4 .given .1))
+returns-5 c = says tt tt tt (rw (c .before .answer4 .given .1))
 
 returns-6 : tie.Need-returns-6
 unfolding told
-returns-6 c = says tt tt tt tt (rw (bare (c .before .before .before .before .args .answer) 5 (c .before .before .before .match .keys6) (inr refl)))
+returns-6 c = says tt tt tt (rw (bare (c .before .before .args .answer) 5 (c .before .match .keys6) (inr refl)))
 
 returns-7 : tie.Need-returns-7
 unfolding told
-returns-7 c = says tt tt tt tt (rw (c .before .before .before .answer5 .given .1))
+returns-7 c = says tt tt tt (rw (c .before .answer5 .given .1))
 
 returns-8 : tie.Need-returns-8
 unfolding told
-returns-8 c = says tt tt tt tt (rw (c .before .before .before .answer6 .given .1))
+returns-8 c = says tt tt tt (rw (c .before .answer6 .given .1))
 
 pub said-spec : {M : Type 1} → statement M
 said-spec =
@@ -76,10 +76,10 @@ said-spec =
     enum-known-answer
     enum-known-answer-2
     enum-known-answer-3
-    cast-t32
+    cast-t19
     enum-told
     enum-known-answer-4
-    cast-t40
+    cast-t23
     enum-told-2
     enum-known-answer-5
     enum-known-answer-6
