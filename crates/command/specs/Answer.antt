@@ -1,7 +1,7 @@
 -- What a step answers.
 use mathlib.Core.List.{List, [], _∷_}
 use Prim.Native.Nat.{ℕ}
-use Rattle.waymap.specs.Bits.{digit}
+use mathlib.Core.Bool.{cond}
 use Rattle.command.specs.declared.Answer.{Answer}
 use Rattle.command.specs.declared.Answer.the-variants.{Hit, Fill, Evict, Pass, Flush, Absent, Policy, Refused}
 
@@ -10,9 +10,9 @@ use Rattle.command.specs.declared.Answer.the-variants.{Hit, Fill, Evict,
 abbrev pub answerOf : Answer → List ℕ
 answerOf (Hit w) = 0 ∷ w ∷ []
 answerOf (Fill w) = 1 ∷ w ∷ []
-answerOf (Evict w tag dirty) = 2 ∷ w ∷ tag ∷ digit dirty ∷ []
+answerOf (Evict w tag dirty) = 2 ∷ w ∷ tag ∷ cond dirty 1 0 ∷ []
 answerOf Pass = 3 ∷ []
-answerOf (Flush w dirty) = 4 ∷ w ∷ digit dirty ∷ []
+answerOf (Flush w dirty) = 4 ∷ w ∷ cond dirty 1 0 ∷ []
 answerOf Absent = 5 ∷ []
 answerOf (Policy dropped dirty) = 6 ∷ dropped ∷ dirty ∷ []
 answerOf (Refused n) = 7 ∷ n ∷ []

@@ -2,6 +2,7 @@
 use mathlib.Core.Logic.{inl, inr}
 use mathlib.Core.Path.{refl}
 use borrow.Author.Needs.{needs}
+use Rattle.waymap.proofs.Booleans.{cases}
 use Rattle.listing.specs.Listing.{told}
 use Rattle.trace.proofs.LineLaws.{says, bare}
 use Rattle.trace.proofs.lines.said.Statement.{statement}
@@ -47,7 +48,7 @@ returns-2 c = says tt tt tt (rw (c .before .answer2 .given .1))
 
 returns-3 : tie.Need-returns-3
 unfolding told
-returns-3 c = says tt tt tt (rw (c .before .answer3 .given .1))
+returns-3 c = says tt tt tt (rw (c .before .answer3 .given .1) (cases (c .before .answer3 .given .0 .1 .1 .0) (λ t. rw t) (λ t. rw t)))
 
 returns-4 : tie.Need-returns-4
 unfolding told
@@ -55,7 +56,7 @@ returns-4 c = says tt tt tt (rw (bare (c .before .before .args .answer) 3 (c .be
 
 returns-5 : tie.Need-returns-5
 unfolding told
-returns-5 c = says tt tt tt (rw (c .before .answer4 .given .1))
+returns-5 c = says tt tt tt (rw (c .before .answer4 .given .1) (cases (c .before .answer4 .given .0 .1 .0) (λ t. rw t) (λ t. rw t)))
 
 returns-6 : tie.Need-returns-6
 unfolding told
