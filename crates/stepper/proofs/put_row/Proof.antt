@@ -72,7 +72,8 @@ same-length c =
 
 returns : tie.Need-returns
 returns c =
-    let entry = c .before .before .before .before .before .before .before .before .before .before .before .before .before .before .before .before .before .before .before .before .before .before in
+    let put = c .before .before .before .before .before .before .before .before .before .before .before in
+    let entry = put .before .before .before .before .before .before .before .before .before .before .before in
     row-short (entry .args .at) (c .before .before .put-tags .ensures) (entry .pre .1 .1 .0)
 
 pub put-row-spec : {M : Type 1} → statement M

@@ -10,33 +10,40 @@ fresh-tables-requires : tie.Need-fresh-tables-requires
 fresh-tables-requires c κs = tt
 
 head-requires : tie.Need-head-requires
-head-requires c κs = room-for-head (c .before .before .before .before .before .before .before .before .before .before .before .before .before .before .before .before .before .before .before .before .pre .1 .1 .1)
+head-requires c κs =
+    let made = c .before .before .before .before .before .before .before .before .before .before in
+    room-for-head (made .before .before .before .before .before .before .before .before .before .before .pre .1 .1 .1)
 
 run-requires : tie.Need-run-requires
 run-requires c κs =
     let headed = c .before .before .before .before .before .before .before in
-    let entry = headed .before .before .before .before .before .before .before .before .before .before .before .before .before .before .before .before .before .before .before .before .before in
+    let made = headed .before .before .before .before .before .before .before .before .before .before in
+    let entry = made .before .before .before .before .before .before .before .before .before .before .before in
     room-for-lines (headed .head .ensures .1) (headed .head .kept .1 .1 .0) (entry .pre .1 .1 .0) (entry .pre .1 .1 .1)
 
 same-length : tie.Need-same-length
 same-length c =
     let ran = c .before .before .before .before .before .before .before .before .before .before in
-    ran .run .kept .1 .1 .1 .0 ∙ ran .before .before .before .before .before .before .before .before .before .before .before .before .before .before .before .before .before .before .fresh-tables .kept .1 .0
+    let made = ran .before .before .before .before .before .before .before .before .before in
+    ran .run .kept .1 .1 .1 .0 ∙ made .before .before .before .before .before .before .before .before .before .fresh-tables .kept .1 .0
 
 same-length-2 : tie.Need-same-length-2
 same-length-2 c =
     let ran = c .before .before .before .before .before .before .before .before .before .before in
-    ran .run .kept .1 .1 .1 .1 .0 ∙ ran .before .before .before .before .before .before .before .before .before .before .before .before .before .before .before .before .before .before .fresh-tables .kept .1 .1 .0
+    let made = ran .before .before .before .before .before .before .before .before .before in
+    ran .run .kept .1 .1 .1 .1 .0 ∙ made .before .before .before .before .before .before .before .before .before .fresh-tables .kept .1 .1 .0
 
 same-length-3 : tie.Need-same-length-3
 same-length-3 c =
     let ran = c .before .before .before .before .before .before .before .before .before .before in
-    ran .run .kept .1 .1 .1 .1 .1 .0 ∙ ran .before .before .before .before .before .before .before .before .before .before .before .before .before .before .before .before .before .before .fresh-tables .kept .1 .1 .1 .0
+    let made = ran .before .before .before .before .before .before .before .before .before in
+    ran .run .kept .1 .1 .1 .1 .1 .0 ∙ made .before .before .before .before .before .before .before .before .before .fresh-tables .kept .1 .1 .1 .0
 
 same-length-4 : tie.Need-same-length-4
 same-length-4 c =
     let ran = c .before .before .before .before .before .before .before .before .before .before in
-    ran .run .kept .1 .1 .1 .1 .1 .1 .0 ∙ ran .before .before .before .before .before .before .before .before .before .before .before .before .before .before .before .before .before .before .fresh-tables .kept .1 .1 .1 .1 .0
+    let made = ran .before .before .before .before .before .before .before .before .before in
+    ran .run .kept .1 .1 .1 .1 .1 .1 .0 ∙ made .before .before .before .before .before .before .before .before .before .fresh-tables .kept .1 .1 .1 .1 .0
 
 same-length-5 : tie.Need-same-length-5
 same-length-5 c =

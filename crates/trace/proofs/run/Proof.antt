@@ -41,12 +41,14 @@ answer-requires c κs =
 
 add-i : tie.Need-add-i Inv-loop μ-loop
 add-i c =
-    let asked = c .before .before .before .before .before .before .before .before .before .before .before .before .before .before .before .before .before .before .before in
+    let called = c .before .before .before .before .before .before .before .before .before .before in
+    let asked = called .before .before .before .before .before .before .before .before .before in
     next-fits (asked .loop-test .taken) (asked .before .before .before .before .before .before .before .before .before .fits .steps)
 
 loop-less : tie.Need-loop-less Inv-loop μ-loop
 loop-less c =
-    let asked = c .before .before .before .before .before .before .before .before .before .before .before .before .before .before .before .before .before .before .before in
+    let called = c .before .before .before .before .before .before .before .before .before .before in
+    let asked = called .before .before .before .before .before .before .before .before .before in
     falls (asked .before .before .before .before .before .before .before .before .before .args .steps) (asked .before .loop .i) (asked .loop-test .taken)
 
 loop-again : tie.Need-loop-again Inv-loop μ-loop
