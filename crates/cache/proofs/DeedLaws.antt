@@ -10,6 +10,7 @@ use Rattle.sweep.specs.Clean.{dropped, droppedDirty, cleaned}
 use Rattle.sweep.specs.Sweep.{sweepOf}
 use Rattle.policy.specs.declared.Maps.{Maps}
 use Rattle.command.specs.declared.Answer.{Answer}
+use Rattle.command.specs.declared.LineUse.{LineUse}
 use Rattle.command.specs.declared.Answer.the-variants.{Policy, Refused}
 use Rattle.sweep.specs.declared.Sweep.{Sweep}
 use Rattle.domains.specs.Domains.{mapsOf, isFull, newDomain, usedDomain}
@@ -19,8 +20,9 @@ use Rattle.geometry.specs.declared.Geometry.{Geometry}
 use Rattle.domains.specs.declared.Domain.{Domain}
 use Rattle.domains.specs.declared.Policies.{Policies}
 use Rattle.verdict.proofs.RefusalLaws.{not-full}
-use Rattle.cache.specs.Tables.{Tables, eachSet, total}
-use Rattle.cache.specs.Inside.{Shaped, Work, RowWork, workAt, AllSwept, Deed, deedOf, unless, lineDeed, policyDeed}
+use Rattle.steps.specs.Tables.{Tables, eachSet, total}
+use Rattle.steps.specs.Inside.{Shaped}
+use Rattle.cache.specs.Inside.{Work, RowWork, workAt, AllSwept, Deed, deedOf, unless, lineDeed, policyDeed}
 use Rattle.cache.specs.declared.account.Used.{Used}
 use Rattle.sweep.specs.declared.Drops.{Drops}
 use Rattle.cache.proofs.SweepLaws.{all-clean}
@@ -36,22 +38,22 @@ done-is x t done e z f = rw (← e, z, f)
 
 -- ---- an access or a flush
 
-module _ (g : Geometry) (x : Domain) (flushes store : Bool) (arg : ℕ) (t : Tables)
+module _ (g : Geometry) (x : Domain) (y : LineUse) (arg : ℕ) (t : Tables)
     {n : ℕ} (e : n ≡ useRefusal (asRead (g .ways) (mapsOf x)) (x .counts)) where
-  pub line-down : {u : Used} → (n ≡ 0 → ⊥) → u ≡ record { answer = Refused n; own = x } → deedOf u t ≡ lineDeed g x flushes store arg t
+  pub line-down : {u : Used} → (n ≡ 0 → ⊥) → u ≡ record { answer = Refused n; own = x } → deedOf u t ≡ lineDeed g x y arg t
   unfolding lineDeed
   line-down z f = down x t _ e z f
 
   pub line-room : n ≡ 0 → isFull (x .counts) ≡ false
   line-room z = not-full (asRead (g .ways) (mapsOf x)) (x .counts) (sym e ∙ z)
 
-  pub line-done : {a : Answer} {v : Tables} {u : Used} → n ≡ 0 → RowWork a v (workAt g flushes store (mapsOf x) arg t)
-      → u ≡ record { answer = a; own = usedDomain a x } → deedOf u v ≡ lineDeed g x flushes store arg t
+  pub line-done : {a : Answer} {v : Tables} {u : Used} → n ≡ 0 → RowWork a v (workAt g y (mapsOf x) arg t)
+      → u ≡ record { answer = a; own = usedDomain a x } → deedOf u v ≡ lineDeed g x y arg t
   unfolding lineDeed
   line-done {a} {v} z w f =
       done-is x t _ e z
-      (ap (λ (y : Used). deedOf y v) f
-      ∙ ap (λ (y : Work). record { answer = y .answer; own = usedDomain (y .answer) x; tables = y .tables }) w)
+      (ap (λ (o : Used). deedOf o v) f
+      ∙ ap (λ (o : Work). record { answer = o .answer; own = usedDomain (o .answer) x; tables = o .tables }) w)
 
 -- ---- a change of policy
 

@@ -1,6 +1,6 @@
--- The laws that the crates above cite.
+-- The laws that the functions' proofs cite.
 pub mod PlaceLaws
-pub mod SetLaws
+pub mod RowLaws
 pub mod SweepLaws
 pub mod StepLaws
 pub mod DeedLaws

@@ -6,12 +6,9 @@ use Rattle.geometry.specs.Inside.{Limited}
 use Rattle.geometry.specs.declared.Geometry.{Geometry}
 use Rattle.geometry.specs.Address.{setOf, placeOf}
 use Rattle.geometry.proofs.AddressLaws.{set-below}
+use Rattle.steps.proofs.SetLaws.{row-within}
 use Rattle.cache.specs.Inside.{RowOf, PlaceOf}
 use Rattle.geometry.specs.declared.Place.{Place}
-
--- there is room for a whole row
-pub row-within : (s S W : ℕ) → s < S → s * W + W ≤ S * W
-row-within s S W h = subst (λ (n : ℕ). n ≤ S * W) (suc-mul s W) (mul-le-mul-right W h)
 
 pub span-is : (g : Geometry) (s : ℕ) → s < g .sets → RowOf g s (s * g .ways) (s * g .ways + g .ways)
 span-is g s h = record { start-is = refl; stop-is = refl; stop-le = row-within s (g .sets) (g .ways) h }

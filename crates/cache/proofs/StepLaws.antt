@@ -22,13 +22,15 @@ use Rattle.command.specs.declared.Answer.{Answer}
 use Rattle.command.specs.declared.Answer.the-variants.{Policy, Refused}
 use Rattle.geometry.specs.Geometry.{within, sized, sizesOf}
 use Rattle.domains.specs.Domains.{noDomain, domainOf, mapsOf, policies, putDomain, newDomain, usedDomain}
-use Rattle.command.specs.Kind.{Kind, kindOf, kindIs}
+use Rattle.command.specs.Kind.{Kind, kindOf, kindIs, useIs}
 use Rattle.verdict.specs.Refusal.{useRefusal, policyRefusal, refusal}
 use Rattle.domains.specs.Calls.{policiesOf}
 use Rattle.verdict.specs.Calls.{policyRefusalOf}
 use Rattle.geometry.specs.declared.Geometry.{Geometry}
 use Rattle.command.specs.declared.Asked.{Asked}
 use Rattle.command.specs.declared.Asked.the-variants as AskedIs
+use Rattle.command.specs.declared.LineUse.{LineUse}
+use Rattle.command.specs.declared.LineUse.the-variants.{Load, Store, Flush}
 use Rattle.domains.specs.declared.Domain.{Domain}
 use Rattle.domains.specs.declared.Domains.{Domains}
 use Rattle.domains.specs.declared.Policies.{Policies}
@@ -38,12 +40,14 @@ use Rattle.command.proofs.KindLaws.{asked-policy}
 use Rattle.verdict.proofs.RefusalLaws.{by-line, by-policy, by-unknown}
 use Rattle.verdict.proofs.PolicyLaws.{read-policies}
 use Rattle.geometry.specs.Address.{setOf, tagOf}
-use Rattle.cache.specs.Tables.{Tables, lengths, rowAt, eachSet, total}
-use Rattle.cache.specs.Step.{State, Outcome, outcome, answers, onSet, rowEffect, useLine, changePolicy, stepBy, decided, step}
-use Rattle.cache.specs.Inside.{Shaped, Work, onRow, workOf, workAt, lineWork, Deed, deedOf, unless, lineDeed, policyDeed}
+use Rattle.steps.specs.Tables.{Tables, lengths, rowAt, eachSet, total}
+use Rattle.steps.specs.Step.{State, Outcome, answers, onSet, rowEffect, useLine, changePolicy, stepBy, decided, step}
+use Rattle.cache.specs.Calls.{outcome}
+use Rattle.steps.specs.Inside.{Shaped, lineWork}
+use Rattle.cache.specs.Inside.{flushes, stores, Work, onRow, workOf, workAt, Deed, deedOf, unless, lineDeed, policyDeed}
 use Rattle.cache.specs.declared.Stepped.{Stepped}
 use Rattle.cache.specs.declared.account.Used.{Used}
-use Rattle.cache.proofs.SetLaws.{row-long}
+use Rattle.steps.proofs.SetLaws.{row-long}
 
 -- ---- a verdict, and what is done without one
 
@@ -58,51 +62,34 @@ decided-yes {n} done s e = rw e
 -- ---- an access or a flush
 
 -- on a row of W tags the call's work is the rule's
-line-work : (g : Geometry) (flushes store : Bool) (p : Maps) (tag : ℕ) (r : Row) → inLimits (g .ways) (g .rule) ≡ true → length (r .tags) ≡ g .ways
-    → workOf flushes store (g .rule) p tag r ≡ lineWork flushes (ruleOf (g .rule) (g .ways)) store (asRead (g .ways) p) tag r
+line-work : (g : Geometry) (y : LineUse) (p : Maps) (tag : ℕ) (r : Row) → inLimits (g .ways) (g .rule) ≡ true → length (r .tags) ≡ g .ways
+    → workOf y (g .rule) p tag r ≡ lineWork (flushes y) (ruleOf (g .rule) (g .ways)) (stores y) (asRead (g .ways) p) tag r
 unfolding workOf flushOf accessOf inLimits
-line-work g true store p tag r limits h = rw (h, and-left (isWays (g .ways)) (ltb (g .rule) 2) limits)
-line-work g false store p tag r limits h = rw (h, limits)
+line-work g Load p tag r limits h = rw (h, limits)
+line-work g Store p tag r limits h = rw (h, limits)
+line-work g Flush p tag r limits h = rw (h, and-left (isWays (g .ways)) (ltb (g .rule) 2) limits)
 
-module _ (g : Geometry) (d : ℕ) (flushes store : Bool) (arg : ℕ) (t : Tables) (ds : Domains) (h : Shaped g t) where
+module _ (g : Geometry) (d : ℕ) (y : LineUse) (arg : ℕ) (t : Tables) (ds : Domains) (h : Shaped g t) where
   abbrev before : State
   before = record { tables = t; domains = ds }
 
   effect : Effect
-  effect = rowEffect g (lineWork flushes (ruleOf (g .rule) (g .ways)) store) d arg before
+  effect = rowEffect g (lineWork (flushes y) (ruleOf (g .rule) (g .ways)) (stores y)) d arg before
 
-  effect-is : workOf flushes store (g .rule) (mapsOf (domainOf ds d)) (tagOf g arg) (rowAt (g .ways) (setOf g arg) t) ≡ effect
+  effect-is : workOf y (g .rule) (mapsOf (domainOf ds d)) (tagOf g arg) (rowAt (g .ways) (setOf g arg) t) ≡ effect
   unfolding effect rowEffect policies setOf
   effect-is =
-      line-work g flushes store (mapsOf (domainOf ds d)) (tagOf g arg) (rowAt (g .ways) (setOf g arg) t) (h .limited .limits)
+      line-work g y (mapsOf (domainOf ds d)) (tagOf g arg) (rowAt (g .ways) (setOf g arg) t) (h .limited .limits)
       (row-long g h (setOf g arg) (mod-lt (arg / 64) (h .limited .some-set)))
 
   line-done :
-      let w = workAt g flushes store (mapsOf (domainOf ds d)) arg t in
+      let w = workAt g y (mapsOf (domainOf ds d)) arg t in
       answers (w .answer) (record { tables = w .tables; domains = putDomain d (usedDomain (w .answer) (domainOf ds d)) ds })
-      ≡ useLine g (lineWork flushes (ruleOf (g .rule) (g .ways)) store) d arg before
+      ≡ useLine g (lineWork (flushes y) (ruleOf (g .rule) (g .ways)) (stores y)) d arg before
   unfolding workAt onRow useLine onSet effect
   line-done = ap (λ (e : Effect). onSet g d (setOf g arg) e before) effect-is
 
 -- ---- the step
-
--- what is within the limits and of the right lengths is shaped
-pub shaped : (g : Geometry) (t : Tables) → within g ≡ true → sized g (lengths t) ≡ true → Shaped g t
-unfolding sized
-shaped g t w z =
-    let tags = eqb (length (t .tags)) (g .sets * g .ways) in
-    let valid = eqb (length (t .valid)) (g .sets) in
-    let dirty = eqb (length (t .dirty)) (g .sets) in
-    let words = eqb (length (t .words)) (g .sets) in
-    let three = and-left (tags && valid && dirty) words z in
-    let two = and-left (tags && valid) dirty three in
-    record {
-      limited = limited g w;
-      tags-long = eqb-true (length (t .tags)) (g .sets * g .ways) (and-left tags valid two);
-      valid-long = eqb-true (length (t .valid)) (g .sets) (and-right tags valid two);
-      dirty-long = eqb-true (length (t .dirty)) (g .sets) (and-right (tags && valid) dirty three);
-      words-long = eqb-true (length (t .words)) (g .sets) (and-right (tags && valid && dirty) words z);
-    }
 
 -- a domain's own record put back changes nothing
 put-own : (d : ℕ) (ds : Domains) → putDomain d (domainOf ds d) ds ≡ ds
@@ -140,25 +127,25 @@ module _ (g : Geometry) (d kind arg : ℕ) (t : Tables) (ds : Domains) where
 
   module _ (h : Shaped g t) (q : Asked) (k : kindIs q ≡ kindOf kind)
       {m : ℕ} (e : m ≡ sizesOf g (lengths t)) (z : m ≡ 0) (l : d < 16) where
-    pub step-line : (flushes store : Bool) {used : Used} {u : Tables} {r : Stepped} → q ≡ AskedIs.Line flushes store
-        → deedOf used u ≡ lineDeed g (domainOf ds d) flushes store arg t
+    pub step-line : (y : LineUse) {used : Used} {u : Tables} {r : Stepped} → q ≡ AskedIs.Line y → deedOf used u ≡ lineDeed g (domainOf ds d) y arg t
         → r ≡ record { answer = used .answer; domains = putDomain d (used .own) ds } → outcome r u ≡ step g d kind arg found
     unfolding lineDeed stepBy policies
-    step-line flushes store {used} {u} {r} is f b =
+    step-line y {used} {u} {r} is f b =
         ap (λ (x : Stepped). outcome x u) b
         ∙ step-done (w .answer) (usedDomain (w .answer) (domainOf ds d)) (w .tables) number
-        (line-done g d flushes store arg t ds h ∙ kind-line flushes store (sym (ap kindIs is) ∙ k)) f
+        (line-done g d y arg t ds h ∙ kind-line y (sym (ap kindIs is) ∙ k)) f
       where
         w : Work
-        w = workAt g flushes store (mapsOf (domainOf ds d)) arg t
+        w = workAt g y (mapsOf (domainOf ds d)) arg t
 
         number : useRefusal (policies (g .ways) ds d) (domainOf ds d .counts) ≡ refusal g (lengths t) (policies (g .ways) ds) (domainOf ds d .counts) d kind arg
         number = by-line g (lengths t) (policies (g .ways) ds) (domainOf ds d .counts) d kind arg e z q k l (ap (variantOf AskedType.the-type) is) refl
 
-        kind-line : (flushes store : Bool) → kindIs (AskedIs.Line flushes store) ≡ kindOf kind
-            → useLine g (lineWork flushes (ruleOf (g .rule) (g .ways)) store) d arg found ≡ stepBy (kindOf kind) g d arg found
-        kind-line true store p = ap (λ (x : Kind). stepBy x g d arg found) p
-        kind-line false store p = ap (λ (x : Kind). stepBy x g d arg found) p
+        kind-line : (y : LineUse) → useIs y ≡ kindOf kind
+            → useLine g (lineWork (flushes y) (ruleOf (g .rule) (g .ways)) (stores y)) d arg found ≡ stepBy (kindOf kind) g d arg found
+        kind-line Load p = ap (λ (x : Kind). stepBy x g d arg found) p
+        kind-line Store p = ap (λ (x : Kind). stepBy x g d arg found) p
+        kind-line Flush p = ap (λ (x : Kind). stepBy x g d arg found) p
 
     pub step-policy : {p : Policies} {used : Used} {u : Tables} {r : Stepped} → variantOf AskedType.the-type q ≡ 1 → p ≡ policiesOf ds
         → deedOf used u ≡ policyDeed g (domainOf ds d) p d arg t

@@ -22,9 +22,10 @@ use Rattle.sweep.specs.declared.Sweep.{Sweep}
 use Rattle.policy.specs.declared.Maps.{Maps}
 use Rattle.command.specs.declared.Answer.{Answer}
 use Rattle.geometry.specs.declared.Geometry.{Geometry}
-use Rattle.cache.specs.Tables.{Tables, rowAt, putRow, eachSet, total}
-use Rattle.cache.specs.Inside.{Shaped, Work, RowWork, onRow, dropsOf, AllSwept}
-use Rattle.cache.proofs.SetLaws.{row-long, put-shaped, each-later}
+use Rattle.steps.specs.Tables.{Tables, rowAt, putRow, eachSet, total}
+use Rattle.steps.specs.Inside.{Shaped}
+use Rattle.cache.specs.Inside.{Work, RowWork, onRow, dropsOf, AllSwept}
+use Rattle.steps.proofs.SetLaws.{row-long, put-shaped, each-later}
 
 -- ---- one set
 

@@ -15,6 +15,8 @@ use Rattle.sweep.specs.declared.Sweep.{Sweep}
 use Rattle.policy.specs.declared.Maps.{Maps}
 use Rattle.command.specs.declared.Answer.{Answer}
 use Rattle.command.specs.declared.Answer.the-variants.{Policy, Refused}
+use Rattle.command.specs.declared.LineUse.{LineUse}
+use Rattle.command.specs.declared.LineUse.the-variants.{Load, Store, Flush}
 use Rattle.domains.specs.Domains.{mapsOf, usedDomain, newDomain}
 use Rattle.verdict.specs.Refusal.{useRefusal}
 use Rattle.verdict.specs.Calls.{policyRefusalOf}
@@ -23,18 +25,10 @@ use Rattle.domains.specs.declared.Domain.{Domain}
 use Rattle.domains.specs.declared.Policies.{Policies}
 use Rattle.geometry.specs.declared.Geometry.{Geometry}
 use Rattle.geometry.specs.Address.{setOf, tagOf}
-use Rattle.cache.specs.Tables.{Tables, rowAt, putRow, eachSet, total}
+use Rattle.steps.specs.Tables.{Tables, rowAt, putRow, eachSet, total}
 use Rattle.cache.specs.declared.account.Used.{Used}
 use Rattle.geometry.specs.declared.Place.{Place}
 use Rattle.sweep.specs.declared.Drops.{Drops}
-
--- Tables of the right lengths under such a geometry.
-pub record Shaped (g : Geometry) (t : Tables) : Type 0 where
-  pub limited : Limited g
-  pub tags-long : length (t .tags) ≡ g .sets * g .ways
-  pub valid-long : length (t .valid) ≡ g .sets
-  pub dirty-long : length (t .dirty) ≡ g .sets
-  pub words-long : length (t .words) ≡ g .sets
 
 -- Where the tags of a set lie: from `start` up to `stop`.
 pub record RowOf (g : Geometry) (s start stop : ℕ) : Type 0 where
@@ -48,9 +42,22 @@ pub record PlaceOf (g : Geometry) (address : ℕ) (p : Place) : Type 0 where
   pub set-lt : p .set < g .sets
   pub tag-is : p .tag ≡ tagOf g address
 
+-- Whether a step flushes its line, and whether it stores.
+abbrev pub flushes : LineUse → Bool
+flushes Load = false
+flushes Store = false
+flushes Flush = true
+
+abbrev pub stores : LineUse → Bool
+stores Load = false
+stores Store = true
+stores Flush = false
+
 -- What an access or a flush does to a row.
-unfoldable pub workOf : Bool → Bool → ℕ → Maps → ℕ → Row → Effect
-workOf flushes store rule p tag r = cond flushes (flushOf p tag r) (accessOf rule p tag store r)
+unfoldable pub workOf : LineUse → ℕ → Maps → ℕ → Row → Effect
+workOf Load rule p tag r = accessOf rule p tag false r
+workOf Store rule p tag r = accessOf rule p tag true r
+workOf Flush rule p tag r = flushOf p tag r
 
 -- An answer with the tables that the work leaves.
 pub record Work : Type 0 where
@@ -64,8 +71,8 @@ RowWork a t w = record { answer = a; tables = t } ≡ w
 unfoldable pub onRow : ℕ → ℕ → (Row → Effect) → Tables → Work
 onRow W s f t = record { answer = f (rowAt W s t) .answer; tables = putRow W s (f (rowAt W s t) .row) t }
 
-unfoldable pub workAt : Geometry → Bool → Bool → Maps → ℕ → Tables → Work
-workAt g flushes store p address t = onRow (g .ways) (setOf g address) (workOf flushes store (g .rule) p (tagOf g address)) t
+unfoldable pub workAt : Geometry → LineUse → Maps → ℕ → Tables → Work
+workAt g u p address t = onRow (g .ways) (setOf g address) (workOf u (g .rule) p (tagOf g address)) t
 
 -- The drops of a sweep in a set.
 abbrev pub dropsOf : Sweep → Row → Drops
@@ -76,11 +83,6 @@ pub record AllSwept (g : Geometry) (s : Sweep) (n : ℕ) (before after : Tables)
   pub tables-is : after ≡ eachSet (g .ways) n (λ r. sweepBy s r .row) before
   pub dropped-is : drops ≡ total (g .ways) n (λ r. dropsOf s r .dropped) before
   pub dirty-is : dirt ≡ total (g .ways) n (λ r. dropsOf s r .dirty) before
-
--- An access or a flush, under a rule.
-abbrev pub lineWork : Bool → Rule → Bool → Maps → ℕ → Row → Effect
-lineWork true R store = Row.flush
-lineWork false R store = λ p tag. Row.access R p tag store
 
 -- ---- A step of one domain
 
@@ -97,9 +99,9 @@ deedOf u t = record { answer = u .answer; own = u .own; tables = t }
 unfoldable pub unless : ℕ → Domain → Tables → Deed → Deed
 unless n x t done = cond (eqb n 0) done (record { answer = Refused n; own = x; tables = t })
 
-unfoldable pub lineDeed : Geometry → Domain → Bool → Bool → ℕ → Tables → Deed
-lineDeed g x flushes store arg t =
-    let w = workAt g flushes store (mapsOf x) arg t in
+unfoldable pub lineDeed : Geometry → Domain → LineUse → ℕ → Tables → Deed
+lineDeed g x u arg t =
+    let w = workAt g u (mapsOf x) arg t in
     unless (useRefusal (asRead (g .ways) (mapsOf x)) (x .counts)) x t
     (record { answer = w .answer; own = usedDomain (w .answer) x; tables = w .tables })
 

@@ -1,6 +1,3 @@
--- The cache: document 01, "Geometry and tables" and "Steps".
-pub mod Tables
-pub mod Step
-pub mod Run
-pub mod Fresh
+-- The call of a step.
+pub mod Calls
 pub mod Inside

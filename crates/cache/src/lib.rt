@@ -9,7 +9,8 @@ use command::Asked;
 use domains::Domains;
 use geometry::Geometry;
 ghost use mathlib.Core.Path.{_≡_};
-ghost use Rattle.cache.specs.Step.{tablesOf, outcome, step as stepOf};
+ghost use Rattle.steps.specs.Step.{tablesOf, step as stepOf};
+ghost use Rattle.cache.specs.Calls.{outcome};
 
 // A step's answer, and the domains after it.
 pub struct Stepped {
@@ -44,8 +45,8 @@ pub fn step(
     let own = domains.records[domain];
     let asked = command::kind_of(kind);
     match asked {
-        Asked::Line { flush, store } => {
-            let used = work::line(g, tags, valid, dirty, words, own, flush, store, argument);
+        Asked::Line(usage) => {
+            let used = work::line(g, tags, valid, dirty, words, own, usage, argument);
             account::put_back(domains, domain, used)
         }
         Asked::Policy => {

@@ -1,6 +1,7 @@
 // The work on the sets of the tables: a set's row is lent, and its maps and word are put back.
 use crate::place;
 use command::Answer;
+use command::LineUse;
 use geometry::Geometry;
 use policy::Maps;
 use row::Done;
@@ -9,27 +10,21 @@ use sweep::Drops;
 use sweep::Sweep;
 ghost use mathlib.Core.Path.{_≡_};
 ghost use Prim.Native.Nat.{_<_};
-ghost use Rattle.row.specs.Calls.{rowOf, result};
+ghost use Rattle.row.specs.Calls.{rowOf, result, told};
 ghost use Rattle.sweep.specs.Sweep.{sweepBy};
-ghost use Rattle.cache.specs.Step.{tablesOf};
-ghost use Rattle.cache.specs.Inside.{Shaped, workOf, RowWork, onRow, workAt, AllSwept};
+ghost use Rattle.steps.specs.Step.{tablesOf};
+ghost use Rattle.steps.specs.Inside.{Shaped};
+ghost use Rattle.cache.specs.Inside.{workOf, RowWork, onRow, workAt, AllSwept};
 
 // An access or a flush on a row.
-fn on_row(
-    tags: &mut [u64],
-    lines: Lines,
-    rule: usize,
-    maps: Maps,
-    flush: bool,
-    store: bool,
-    tag: u64,
-) -> Done
-    ensures { λ r. ⌜ result r (now (tags .exit)) ≡ workOf flush store rule maps tag (rowOf (now (tags .entry)) lines) ⌝ }
+fn on_row(tags: &mut [u64], lines: Lines, rule: usize, maps: Maps, usage: LineUse, tag: u64) -> Done
+    ensures { λ r. ⌜ told (result r (now (tags .exit))) ≡ told (workOf usage rule maps tag (rowOf (now (tags .entry)) lines)) ⌝ }
 {
-    if flush {
-        return row::flush(tags, lines, maps, tag);
+    match usage {
+        LineUse::Load => row::access(tags, lines, rule, maps, tag, false),
+        LineUse::Store => row::access(tags, lines, rule, maps, tag, true),
+        LineUse::Flush => row::flush(tags, lines, maps, tag),
     }
-    row::access(tags, lines, rule, maps, tag, store)
 }
 
 // An access or a flush in the tables.
@@ -40,14 +35,13 @@ pub fn use_set(
     dirty: &mut [u16],
     words: &mut [u64],
     maps: Maps,
-    flush: bool,
-    store: bool,
+    usage: LineUse,
     address: u64,
 ) -> Answer
     requires { ⌜ Shaped g (tablesOf (now tags) (now valid) (now dirty) (now words)) ⌝ }
     ensures { λ r.
         ⌜ RowWork r (tablesOf (now (tags .exit)) (now (valid .exit)) (now (dirty .exit)) (now (words .exit)))
-        (workAt g flush store maps address (tablesOf (now (tags .entry)) (now (valid .entry)) (now (dirty .entry)) (now (words .entry)))) ⌝ }
+        (workAt g usage maps address (tablesOf (now (tags .entry)) (now (valid .entry)) (now (dirty .entry)) (now (words .entry)))) ⌝ }
 {
     let found = place::place_of(g, address);
     let set = found.set;
@@ -64,8 +58,7 @@ pub fn use_set(
         lines,
         g.rule,
         maps,
-        flush,
-        store,
+        usage,
         found.tag,
     );
     let left = done.lines;

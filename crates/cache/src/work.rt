@@ -2,13 +2,15 @@
 use crate::account;
 use crate::account::Used;
 use crate::sets;
+use command::LineUse;
 use domains::Domain;
 use domains::Policies;
 use geometry::Geometry;
 use policy::Maps;
 ghost use mathlib.Core.Path.{_≡_};
-ghost use Rattle.cache.specs.Step.{tablesOf};
-ghost use Rattle.cache.specs.Inside.{Shaped, deedOf, lineDeed, policyDeed};
+ghost use Rattle.steps.specs.Step.{tablesOf};
+ghost use Rattle.steps.specs.Inside.{Shaped};
+ghost use Rattle.cache.specs.Inside.{deedOf, lineDeed, policyDeed};
 
 // An access or a flush.
 pub fn line(
@@ -18,14 +20,13 @@ pub fn line(
     dirty: &mut [u16],
     words: &mut [u64],
     own: Domain,
-    flush: bool,
-    store: bool,
+    usage: LineUse,
     address: u64,
 ) -> Used
     requires { ⌜ Shaped g (tablesOf (now tags) (now valid) (now dirty) (now words)) ⌝ }
     ensures { λ r.
         ⌜ deedOf r (tablesOf (now (tags .exit)) (now (valid .exit)) (now (dirty .exit)) (now (words .exit)))
-        ≡ lineDeed g own flush store address (tablesOf (now (tags .entry)) (now (valid .entry)) (now (dirty .entry)) (now (words .entry))) ⌝ }
+        ≡ lineDeed g own usage address (tablesOf (now (tags .entry)) (now (valid .entry)) (now (dirty .entry)) (now (words .entry))) ⌝ }
 {
     let stored = Maps {
         hit: own.hit,
@@ -35,7 +36,7 @@ pub fn line(
     if number != 0 {
         return account::turned_down(number, own);
     }
-    let answer = sets::use_set(g, tags, valid, dirty, words, stored, flush, store, address);
+    let answer = sets::use_set(g, tags, valid, dirty, words, stored, usage, address);
     account::after_use(own, answer)
 }
 

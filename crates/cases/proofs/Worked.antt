@@ -17,10 +17,10 @@ use Rattle.command.specs.Kind.{kindOf}
 use Rattle.policy.specs.Policy.{asRead, newMaps, badArgument}
 use Rattle.verdict.specs.Refusal.{sharesWay, sharesNode, useRefusal, policyRefusal, refusalBy, refusal}
 use Rattle.geometry.specs.Address.{setOf, tagOf}
-use Rattle.cache.specs.Tables.{rowAt, putRow, eachSet, total}
-use Rattle.cache.specs.Step.{onSet, rowEffect, useLine, changePolicy, stepBy, decided, step}
-use Rattle.cache.specs.Run.{answersOf}
-use Rattle.cache.specs.Fresh.{freshTables, freshDomains, fresh}
+use Rattle.steps.specs.Tables.{rowAt, putRow, eachSet, total}
+use Rattle.steps.specs.Step.{onSet, rowEffect, useLine, changePolicy, stepBy, decided, step}
+use Rattle.steps.specs.Run.{answersOf}
+use Rattle.steps.specs.Fresh.{freshTables, freshDomains, fresh}
 use Rattle.cases.specs.Cases.{Case, cases}
 
 pub worked : (u : ℕ) → map (λ (c : Case). c .given) (cases u) ≡ map (λ (c : Case). c .printed) (cases u)

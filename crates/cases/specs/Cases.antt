@@ -8,8 +8,8 @@ use Rattle.tree.specs.Tree as Tree
 use Rattle.replacement.specs.Rule.{Rule, tree, nru}
 use Rattle.geometry.specs.declared.Geometry.{Geometry}
 use Rattle.command.specs.Command.{Command}
-use Rattle.cache.specs.Run.{answersOf}
-use Rattle.cache.specs.Fresh.{fresh}
+use Rattle.steps.specs.Run.{answersOf}
+use Rattle.steps.specs.Fresh.{fresh}
 
 pub record Case : Type 0 where
   pub given : List ℕ

@@ -1,18 +1,54 @@
--- What is asked for, by its place among the code's kinds.
-use mathlib.Core.Path.{_≡_, refl}
+-- What is asked for, by its place among the code's kinds; and that document 01's kinds tell the code's apart.
+use mathlib.Core.Path.{_≡_, refl, ap}
+use mathlib.Core.Bool.{true, false}
+use Prim.Native.Nat.{ℕ, zero, suc}
 use native.Mathlib.Omega.{arith}
 use denote.Enum.Declared.{tagOf}
-use Rattle.command.specs.Kind.{policy, unknown, kindIs}
+use Rattle.command.specs.Kind.{Kind, access, flush, policy, unknown, kindIs, useIs}
 use Rattle.command.specs.declared.Asked.{Asked}
-use Rattle.command.specs.declared.Asked.the-variants as AskedIs
+use Rattle.command.specs.declared.Asked.the-variants.{Line, Policy, Unknown}
+use Rattle.command.specs.declared.LineUse.{LineUse}
+use Rattle.command.specs.declared.LineUse.the-variants.{Load, Store, Flush}
 use Rattle.command.proofs.Asked as AskedType
+use Rattle.command.proofs.LineUse as UseType
 
 pub asked-policy : (q : Asked) → tagOf AskedType.the-type q ≡ 1 → policy ≡ kindIs q
-asked-policy (AskedIs.Line flushes store) e = absurd (omega arith)
-asked-policy AskedIs.Policy e = refl
-asked-policy AskedIs.Unknown e = absurd (omega arith)
+asked-policy (Line u) e = absurd (omega arith)
+asked-policy Policy e = refl
+asked-policy Unknown e = absurd (omega arith)
 
 pub asked-unknown : (q : Asked) → tagOf AskedType.the-type q ≡ 2 → unknown ≡ kindIs q
-asked-unknown (AskedIs.Line flushes store) e = absurd (omega arith)
-asked-unknown AskedIs.Policy e = absurd (omega arith)
-asked-unknown AskedIs.Unknown e = refl
+asked-unknown (Line u) e = absurd (omega arith)
+asked-unknown Policy e = absurd (omega arith)
+asked-unknown Unknown e = refl
+
+-- What is done with a line, by its place among the three.
+abbrev pub useAt : ℕ → LineUse
+useAt zero = Load
+useAt (suc zero) = Store
+useAt (suc (suc n)) = Flush
+
+pub use-is : (u : LineUse) {n : ℕ} → tagOf UseType.the-type u ≡ n → u ≡ useAt n
+use-is Load e = ap useAt e
+use-is Store e = ap useAt e
+use-is Flush e = ap useAt e
+
+-- What a kind asks for.
+askedOf : Kind → Asked
+askedOf (access true) = Line Store
+askedOf (access false) = Line Load
+askedOf flush = Line Flush
+askedOf policy = Policy
+askedOf unknown = Unknown
+
+asked-again : (q : Asked) → askedOf (kindIs q) ≡ q
+unfolding askedOf
+asked-again (Line Load) = refl
+asked-again (Line Store) = refl
+asked-again (Line Flush) = refl
+asked-again Policy = refl
+asked-again Unknown = refl
+
+-- So the contract of `kind_of` settles its whole answer.
+pub kind-injective : (p q : Asked) → kindIs p ≡ kindIs q → p ≡ q
+kind-injective p q e = rw (← (asked-again p), ← (asked-again q), e)

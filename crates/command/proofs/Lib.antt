@@ -2,3 +2,4 @@
 pub mod CommandLaws
 pub mod ListLaws
 pub mod KindLaws
+pub mod AnswerLaws

@@ -28,9 +28,16 @@ pub fn command_of(code: u16, argument: u64) -> Command
     }
 }
 
+// What a step does with the line of its address. A fetch is a load.
+pub enum LineUse {
+    Load,
+    Store,
+    Flush,
+}
+
 // What a kind number asks for.
 pub enum Asked {
-    Line { flush: bool, store: bool },
+    Line(LineUse),
     Policy,
     Unknown,
 }
@@ -39,18 +46,9 @@ pub fn kind_of(kind: u8) -> Asked
     ensures { λ r. ⌜ kindIs r ≡ kindOf kind ⌝ }
 {
     match kind {
-        0..=1 => Asked::Line {
-            flush: false,
-            store: false,
-        },
-        2 => Asked::Line {
-            flush: false,
-            store: true,
-        },
-        3 => Asked::Line {
-            flush: true,
-            store: false,
-        },
+        0..=1 => Asked::Line(LineUse::Load),
+        2 => Asked::Line(LineUse::Store),
+        3 => Asked::Line(LineUse::Flush),
         16 => Asked::Policy,
         4..=15 | 17..=255 => Asked::Unknown,
     }

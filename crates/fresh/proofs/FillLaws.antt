@@ -14,12 +14,12 @@ use Rattle.replacement.specs.declared.Outcome.{Outcome}
 use Rattle.geometry.specs.Geometry.{within, sized, sizesOf}
 use Rattle.geometry.specs.declared.Geometry.{Geometry}
 use Rattle.geometry.proofs.GeometryLaws.{sizes-passed}
-use Rattle.cache.specs.Tables.{Tables, lengths}
-use Rattle.cache.specs.Fresh.{freshTables}
+use Rattle.steps.specs.Tables.{Tables, lengths}
+use Rattle.steps.specs.Fresh.{freshTables}
 use Rattle.fresh.specs.Calls.{Made, madeOf, freshOf}
-use Rattle.cache.specs.Step.{tablesOf}
-use Rattle.cache.specs.Inside.{Shaped}
-use Rattle.cache.proofs.StepLaws.{shaped}
+use Rattle.steps.specs.Step.{tablesOf}
+use Rattle.steps.specs.Inside.{Shaped}
+use Rattle.steps.proofs.SetLaws.{shaped}
 
 -- The first i places are v, and the others as they were.
 pub record Filling (v : ℕ) (old new : List ℕ) (i : ℕ) : Type 0 where

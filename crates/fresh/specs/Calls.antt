@@ -3,8 +3,8 @@ use mathlib.Core.Bool.{cond, not}
 use Prim.Native.Nat.{ℕ}
 use Rattle.geometry.specs.Geometry.{within, sized}
 use Rattle.geometry.specs.declared.Geometry.{Geometry}
-use Rattle.cache.specs.Tables.{Tables, lengths}
-use Rattle.cache.specs.Fresh.{freshTables}
+use Rattle.steps.specs.Tables.{Tables, lengths}
+use Rattle.steps.specs.Fresh.{freshTables}
 
 -- 0 and fresh tables; or "1: geometry outside the limits", "2: a table whose length is not exactly the one above", and the tables as they
 -- were.

@@ -6,8 +6,8 @@ use domains::Domain;
 use domains::Domains;
 use geometry::Geometry;
 ghost use mathlib.Core.Path.{_≡_};
-ghost use Rattle.cache.specs.Step.{tablesOf};
-ghost use Rattle.cache.specs.Fresh.{freshDomains};
+ghost use Rattle.steps.specs.Step.{tablesOf};
+ghost use Rattle.steps.specs.Fresh.{freshDomains};
 ghost use Rattle.fresh.specs.Calls.{madeOf, freshOf};
 
 // The tables become those of a fresh cache. The answer is 0, or 1 or 2 as for a step, and then nothing changes.

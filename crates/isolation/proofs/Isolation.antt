@@ -19,11 +19,11 @@ use Rattle.domains.specs.Domains.{noDomain, domainOf, policies}
 use Rattle.geometry.specs.Inside.{Limited}
 use Rattle.geometry.specs.declared.Geometry.{Geometry}
 use Rattle.geometry.proofs.GeometryLaws.{limited}
-use Rattle.cache.specs.Tables.{rowAt}
-use Rattle.cache.specs.Step.{State}
+use Rattle.steps.specs.Tables.{rowAt}
+use Rattle.steps.specs.Step.{State}
 use Rattle.command.specs.Command.{Command}
-use Rattle.cache.specs.Run.{stepOn, answersOf, finally}
-use Rattle.cache.specs.Fresh.{freshTables, freshDomains, fresh}
+use Rattle.steps.specs.Run.{stepOn, answersOf, finally}
+use Rattle.steps.specs.Fresh.{freshTables, freshDomains, fresh}
 use Rattle.purge.specs.Purge.{belongs, keeps, purge}
 use Rattle.isolation.specs.StruckOut.{answersTo, ownAnswers, verdicts, SameTo, StruckOut}
 use Rattle.isolation.proofs.Relation.{Whole, Related}

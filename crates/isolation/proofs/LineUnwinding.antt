@@ -23,10 +23,10 @@ use Rattle.geometry.specs.declared.Geometry.{Geometry}
 use Rattle.domains.specs.declared.Domain.{Domain}
 use Rattle.domains.specs.declared.Domains.{Domains}
 use Rattle.geometry.specs.Address.{setOf, tagOf}
-use Rattle.cache.specs.Tables.{Tables, rowAt, putRow}
-use Rattle.cache.specs.Step.{State, Outcome, onSet, rowEffect, useLine}
-use Rattle.cache.specs.Inside.{Shaped, lineWork}
-use Rattle.cache.proofs.SetLaws.{row-long, put-shaped, row-put-same, row-put-other}
+use Rattle.steps.specs.Tables.{Tables, rowAt, putRow}
+use Rattle.steps.specs.Step.{State, Outcome, onSet, rowEffect, useLine}
+use Rattle.steps.specs.Inside.{Shaped, lineWork}
+use Rattle.steps.proofs.SetLaws.{row-long, put-shaped, row-put-same, row-put-other}
 use Rattle.domains.proofs.DomainLaws as DomainLaws
 use Rattle.isolation.proofs.Relation.{Whole, Separate, Unheld, Unwritten, Alike, Related}
 use Rattle.isolation.proofs.RowUnwinding.{own-access, own-flush, other-access, other-flush}

@@ -27,10 +27,10 @@ use Rattle.geometry.specs.declared.Geometry.{Geometry}
 use Rattle.domains.specs.declared.Domain.{Domain}
 use Rattle.domains.specs.declared.Domains.{Domains}
 use Rattle.policy.proofs.ArgumentLaws.{good-maps}
-use Rattle.cache.specs.Tables.{Tables, rowAt, eachSet, total}
-use Rattle.cache.specs.Step.{State, Outcome, changePolicy}
-use Rattle.cache.specs.Inside.{Shaped}
-use Rattle.cache.proofs.SetLaws.{row-long, each-shaped, each-row}
+use Rattle.steps.specs.Tables.{Tables, rowAt, eachSet, total}
+use Rattle.steps.specs.Step.{State, Outcome, changePolicy}
+use Rattle.steps.specs.Inside.{Shaped}
+use Rattle.steps.proofs.SetLaws.{row-long, each-shaped, each-row}
 use Rattle.domains.proofs.DomainLaws as DomainLaws
 use Rattle.isolation.proofs.Relation.{Whole, Separate, Unheld, Unwritten, Alike, Related}
 use Rattle.isolation.proofs.RowUnwinding.{rule, clean-alike, own-drops}

@@ -14,9 +14,9 @@ use Rattle.policy.specs.declared.Maps.{Maps}
 use Rattle.domains.specs.Domains.{domainOf, policies}
 use Rattle.geometry.specs.declared.Geometry.{Geometry}
 use Rattle.domains.specs.declared.Domains.{Domains}
-use Rattle.cache.specs.Tables.{Tables, rowAt}
-use Rattle.cache.specs.Step.{State}
-use Rattle.cache.specs.Inside.{Shaped}
+use Rattle.steps.specs.Tables.{Tables, rowAt}
+use Rattle.steps.specs.Step.{State}
+use Rattle.steps.specs.Inside.{Shaped}
 
 -- Tables of their lengths and all sixteen domains.
 pub record Whole (g : Geometry) (s : State) : Type 0 where

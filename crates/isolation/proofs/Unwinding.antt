@@ -15,11 +15,11 @@ use Rattle.verdict.specs.Refusal.{useRefusal, policyRefusal, refusalBy, refusal
 use Rattle.geometry.specs.Inside.{Limited}
 use Rattle.geometry.specs.declared.Geometry.{Geometry}
 use Rattle.geometry.proofs.GeometryLaws.{limited}
-use Rattle.cache.specs.Tables.{lengths}
-use Rattle.cache.specs.Step.{State, Outcome, answers, useLine, changePolicy, stepBy, decided, step}
+use Rattle.steps.specs.Tables.{lengths}
+use Rattle.steps.specs.Step.{State, Outcome, answers, useLine, changePolicy, stepBy, decided, step}
 use Rattle.command.specs.Command.{Command}
-use Rattle.cache.specs.Run.{stepOn}
-use Rattle.cache.specs.Inside.{lineWork}
+use Rattle.steps.specs.Run.{stepOn}
+use Rattle.steps.specs.Inside.{lineWork}
 use Rattle.purge.specs.Purge.{belongs, keeps}
 use Rattle.purge.proofs.KeepLaws.{struck, kept-kind}
 use Rattle.isolation.specs.StruckOut.{numberOf}

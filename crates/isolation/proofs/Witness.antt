@@ -19,11 +19,11 @@ use Rattle.verdict.specs.Refusal.{sharesWay, sharesNode, useRefusal, policyRefu
 use Rattle.geometry.specs.declared.Geometry.{Geometry}
 use Rattle.domains.specs.declared.Counts.{Counts}
 use Rattle.geometry.specs.Address.{setOf, tagOf}
-use Rattle.cache.specs.Tables.{rowAt, putRow, eachSet, total}
-use Rattle.cache.specs.Step.{State, onSet, rowEffect, useLine, changePolicy, stepBy, decided, step}
+use Rattle.steps.specs.Tables.{rowAt, putRow, eachSet, total}
+use Rattle.steps.specs.Step.{State, onSet, rowEffect, useLine, changePolicy, stepBy, decided, step}
 use Rattle.command.specs.Command.{Command}
-use Rattle.cache.specs.Run.{answersOf, finally}
-use Rattle.cache.specs.Fresh.{freshTables, freshDomains, fresh}
+use Rattle.steps.specs.Run.{answersOf, finally}
+use Rattle.steps.specs.Fresh.{freshTables, freshDomains, fresh}
 use Rattle.purge.specs.Purge.{keeps, purge}
 use Rattle.isolation.specs.StruckOut.{answersTo, ownAnswers, numberOf, verdicts}
 

@@ -8,11 +8,11 @@ use Rattle.replacement.specs.Rule.{ruleOf}
 use Rattle.row.specs.View.{SameView}
 use Rattle.domains.specs.Domains.{domainOf, policies}
 use Rattle.geometry.specs.declared.Geometry.{Geometry}
-use Rattle.cache.specs.Tables.{rowAt}
-use Rattle.cache.specs.Step.{State}
+use Rattle.steps.specs.Tables.{rowAt}
+use Rattle.steps.specs.Step.{State}
 use Rattle.command.specs.Command.{Command}
-use Rattle.cache.specs.Run.{answersOf, finally}
-use Rattle.cache.specs.Fresh.{fresh}
+use Rattle.steps.specs.Run.{answersOf, finally}
+use Rattle.steps.specs.Fresh.{fresh}
 use Rattle.purge.specs.Purge.{belongs, purge}
 
 -- Of the answers of a run, those to the steps that pass a test.

@@ -11,9 +11,9 @@ use Rattle.domains.specs.declared.Counts.{Counts}
 use Rattle.domains.specs.declared.Domain.{Domain}
 use Rattle.domains.specs.declared.Domains.{Domains}
 use Rattle.command.specs.Command.{Command}
-use Rattle.cache.specs.Run.{answersOf, finally}
-use Rattle.cache.specs.Fresh.{fresh}
-use Rattle.cache.specs.Step.{State}
+use Rattle.steps.specs.Run.{answersOf, finally}
+use Rattle.steps.specs.Fresh.{fresh}
+use Rattle.steps.specs.Step.{State}
 use Rattle.tracefile.specs.File.{geometryOf, stepCount, stepsOf, fileRefusal}
 
 -- A number "in decimal", of at most k digits.

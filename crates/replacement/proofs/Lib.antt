@@ -1,3 +1,4 @@
 -- The laws that the crates above cite.
 pub mod RuleLaws
 pub mod CallLaws
+pub mod ReplyLaws

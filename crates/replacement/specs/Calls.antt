@@ -10,7 +10,8 @@ use Rattle.replacement.specs.declared.Reply.{Reply}
 use Rattle.replacement.specs.declared.Reply.the-variants.{Way, Done, OutsideLimits, OutOfReach, SharedNode}
 use Rattle.replacement.specs.declared.Outcome.{Outcome}
 
--- Document 01's number and values of each answer: 0 and the values of a call that is not refused, else the number alone.
+-- Document 01's number and values of each answer: 0 and the values of a call that is not refused, else the number alone. Law
+-- `reply-injective`: it tells any two answers apart.
 abbrev pub answerOf : Reply → List ℕ
 answerOf (Way w) = 0 ∷ w ∷ []
 answerOf Done = 0 ∷ []

@@ -2,3 +2,4 @@
 pub mod RuleLaws
 pub mod WorkLaws
 pub mod LineLaws
+pub mod ToldLaws

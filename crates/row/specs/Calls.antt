@@ -11,11 +11,20 @@ use Rattle.policy.specs.Policy.{asRead}
 use Rattle.policy.specs.declared.Maps.{Maps}
 use Rattle.row.specs.declared.Lines.{Lines}
 use Rattle.row.specs.declared.Done.{Done}
+use Rattle.command.specs.Answer.{answerOf}
 use Rattle.command.specs.declared.Answer.the-variants.{Refused}
 
 -- A set's row from its lent tags and the rest by value.
 abbrev pub rowOf : List ℕ → Lines → Row
 rowOf tags l = record { tags = tags; valid = l .valid; dirty = l .dirty; word = l .word }
+
+-- An effect with its answer as document 01 words it. Law `told-injective`: it tells any two effects apart.
+pub record Told : Type 0 where
+  pub answer : List ℕ
+  pub row : Row
+
+abbrev pub told : Effect → Told
+told e = record { answer = answerOf (e .answer); row = e .row }
 
 -- What a call gives, as an effect on the row.
 abbrev pub result : Done → List ℕ → Effect

@@ -6,7 +6,7 @@ mod work;
 use command::Answer;
 use policy::Maps;
 ghost use mathlib.Core.Path.{_≡_};
-ghost use Rattle.row.specs.Calls.{rowOf, result, accessOf, flushOf};
+ghost use Rattle.row.specs.Calls.{rowOf, result, told, accessOf, flushOf};
 
 // A set's valid map, dirty map and replacement word.
 pub struct Lines {
@@ -30,7 +30,7 @@ pub fn access(
     tag: u64,
     store: bool,
 ) -> Done
-    ensures { λ r. ⌜ result r (now (tags .exit)) ≡ accessOf rule maps tag store (rowOf (now (tags .entry)) lines) ⌝ }
+    ensures { λ r. ⌜ told (result r (now (tags .exit))) ≡ told (accessOf rule maps tag store (rowOf (now (tags .entry)) lines)) ⌝ }
 {
     let ways = tags.len();
     if replacement::in_limits(ways, rule) {} else {
@@ -59,7 +59,7 @@ pub fn access(
 
 // A flush.
 pub fn flush(tags: &[u64], lines: Lines, maps: Maps, tag: u64) -> Done
-    ensures { λ r. ⌜ result r (now (tags .entry)) ≡ flushOf maps tag (rowOf (now (tags .entry)) lines) ⌝ }
+    ensures { λ r. ⌜ told (result r (now (tags .entry))) ≡ told (flushOf maps tag (rowOf (now (tags .entry)) lines)) ⌝ }
 {
     let ways = tags.len();
     if waymap::is_ways(ways) {} else {

@@ -8,7 +8,7 @@ use replacement::Change;
 use row::Done;
 use row::Lines;
 ghost use mathlib.Core.Path.{_≡_};
-ghost use Rattle.row.specs.Calls.{rowOf, result};
+ghost use Rattle.row.specs.Calls.{rowOf, result, told};
 ghost use Rattle.sweep.specs.Sweep.{sweepOf, sweepBy, dropsIn, addedTo};
 
 // What a change of policy does to every set alike: the ways that are cleaned, and what becomes of the replacement word.
@@ -31,7 +31,7 @@ pub fn sweep_of(ways: usize, rule: usize, old: Maps, new: Maps) -> Sweep
 
 // What it does to the set.
 pub fn swept(tags: &mut [u64], lines: Lines, sweep: Sweep) -> Done
-    ensures { λ r. ⌜ result r (now (tags .exit)) ≡ sweepBy sweep (rowOf (now (tags .entry)) lines) ⌝ }
+    ensures { λ r. ⌜ told (result r (now (tags .exit))) ≡ told (sweepBy sweep (rowOf (now (tags .entry)) lines)) ⌝ }
 {
     let read = policy::as_read(
         tags.len(),

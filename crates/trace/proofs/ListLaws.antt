@@ -14,10 +14,10 @@ use Rattle.geometry.specs.Geometry.{within, Lengths, sized}
 use Rattle.geometry.specs.Inside.{Limited}
 use Rattle.geometry.specs.declared.Geometry.{Geometry}
 use Rattle.geometry.proofs.GeometryLaws.{limited, rows-bound}
-use Rattle.cache.specs.Tables.{Tables, lengths}
-use Rattle.cache.specs.Step.{State, tablesOf}
-use Rattle.cache.specs.Run.{finally}
-use Rattle.cache.specs.Fresh.{fresh}
+use Rattle.steps.specs.Tables.{Tables, lengths}
+use Rattle.steps.specs.Step.{State, tablesOf}
+use Rattle.steps.specs.Run.{finally}
+use Rattle.steps.specs.Fresh.{fresh}
 use Rattle.tracefile.proofs.FileLaws.{Accepted, accepted}
 use Rattle.tracefile.specs.File.{geometryOf, stepCount, stepsOf, fileRefusal}
 use Rattle.listing.specs.Listing.{refusedLine, runLines, listing}

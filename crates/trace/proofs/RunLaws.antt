@@ -10,10 +10,10 @@ use Rattle.domains.specs.Domains.{maxDomains}
 use Rattle.domains.specs.declared.Domains.{Domains}
 use Rattle.geometry.specs.declared.Geometry.{Geometry}
 use Rattle.command.specs.Command.{Command}
-use Rattle.cache.specs.Run.{stepOn, answersOf, finally}
-use Rattle.cache.specs.Step.{State, Outcome}
-use Rattle.cache.specs.Tables.{Tables, lengths}
-use Rattle.cache.specs.Fresh.{freshTables, freshDomains, fresh}
+use Rattle.steps.specs.Run.{stepOn, answersOf, finally}
+use Rattle.steps.specs.Step.{State, Outcome}
+use Rattle.steps.specs.Tables.{Tables, lengths}
+use Rattle.steps.specs.Fresh.{freshTables, freshDomains, fresh}
 use Rattle.fresh.specs.Calls.{Made, madeOf, freshOf}
 use Rattle.tracefile.specs.File.{commandAt, lastSteps}
 use Rattle.listing.specs.Listing.{decimal, line, told, answerLines, headLine, domainLines, runLines}

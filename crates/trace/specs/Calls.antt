@@ -4,10 +4,10 @@ use mathlib.Core.List.{List, _++_}
 use Prim.Native.Nat.{ℕ}
 use lib.Dec.{eqb}
 use lib.ListN.{length, drop}
-use Rattle.cache.specs.Run.{finally}
-use Rattle.cache.specs.Fresh.{fresh}
-use Rattle.cache.specs.Step.{State}
-use Rattle.cache.specs.Tables.{Tables}
+use Rattle.steps.specs.Run.{finally}
+use Rattle.steps.specs.Fresh.{fresh}
+use Rattle.steps.specs.Step.{State}
+use Rattle.steps.specs.Tables.{Tables}
 use Rattle.tracefile.specs.File.{geometryOf, stepsOf, fileRefusal}
 use Rattle.listing.specs.Listing.{listing}
 

@@ -8,10 +8,10 @@ use lib.ListN.{length, take}
 use lib.Seq.{sets}
 use Rattle.geometry.specs.declared.Geometry.{Geometry}
 use Rattle.domains.specs.Domains.{maxDomains}
-use Rattle.cache.specs.Run.{answersOf, finally}
-use Rattle.cache.specs.Fresh.{freshDomains, fresh}
-use Rattle.cache.specs.Tables.{Tables}
-use Rattle.cache.specs.Step.{State}
+use Rattle.steps.specs.Run.{answersOf, finally}
+use Rattle.steps.specs.Fresh.{freshDomains, fresh}
+use Rattle.steps.specs.Tables.{Tables}
+use Rattle.steps.specs.Step.{State}
 use Rattle.tracefile.specs.File.{lastSteps}
 use Rattle.listing.specs.Listing.{decimal, answerLines, domainLines, runLines}
 use Rattle.trace.specs.declared.lines.Phrase.{Phrase}

@@ -35,6 +35,7 @@ use Rattle.domains.specs.declared.Counts.{Counts}
 use Rattle.domains.specs.declared.Policies.{Policies}
 use Rattle.command.specs.declared.Asked.{Asked}
 use Rattle.command.specs.declared.Asked.the-variants as AskedIs
+use Rattle.command.specs.declared.LineUse.the-variants.{Load, Store, Flush}
 use Rattle.command.proofs.Asked as AskedType
 
 -- ---- numbers 8 and 9, for one other domain
@@ -125,8 +126,9 @@ module _ (g : Geometry) (n : Lengths) (policies : ℕ → Maps) (c : Counts) (d 
       by-line {r} t u = by-kind h k (line-is q t)
         where
           line-is : (x : Asked) → tagOf AskedType.the-type x ≡ 0 → r ≡ refusalBy (kindIs x) g policies c d arg
-          line-is (AskedIs.Line true store) y = u
-          line-is (AskedIs.Line false store) y = u
+          line-is (AskedIs.Line Load) y = u
+          line-is (AskedIs.Line Store) y = u
+          line-is (AskedIs.Line Flush) y = u
           line-is AskedIs.Policy y = absurd (omega arith)
           line-is AskedIs.Unknown y = absurd (omega arith)
 

@@ -3,10 +3,11 @@ use native.Mathlib.Omega.{arith}
 use Rattle.domains.specs.Domains.{domainOf, policies}
 use Rattle.geometry.proofs.GeometryLaws.{sizes-passed}
 use Rattle.verdict.proofs.RefusalLaws.{by-sizes, by-domain}
-use Rattle.cache.specs.Tables.{Tables, lengths}
-use Rattle.cache.specs.Step.{tablesOf}
-use Rattle.cache.specs.Inside.{Shaped}
-use Rattle.cache.proofs.StepLaws.{shaped, step-refused, step-line, step-policy, step-unknown}
+use Rattle.steps.specs.Tables.{Tables, lengths}
+use Rattle.steps.specs.Step.{tablesOf}
+use Rattle.steps.specs.Inside.{Shaped}
+use Rattle.steps.proofs.SetLaws.{shaped}
+use Rattle.cache.proofs.StepLaws.{step-refused, step-line, step-policy, step-unknown}
 use borrow.Author.Needs.{needs}
 use Rattle.cache.proofs.step.Statement.{statement}
 use Rattle.cache.proofs.step.Tie as tie
@@ -109,7 +110,7 @@ returns-3 c =
     let last = called .line .last .1 in
     step-line (entry .args .g) (entry .args .domain) (entry .args .kind) (entry .args .argument) (lent entry) (entry .args .t6) (is-shaped sized)
     (asked .result) (asked .ensures) (sized .before .sizes .ensures) (sized .if1 .left) (told .before .before .before .before .if2 .left)
-    _ _ {u = tablesOf (last .0) (last .1 .0) (last .1 .1 .0) (last .1 .1 .1 .0)}
+    _ {u = tablesOf (last .0) (last .1 .0) (last .1 .1 .0) (last .1 .1 .1 .0)}
     (told .asked .given .1) (called .line .ensures) (c .put-back .ensures)
 
 same-length-5 : tie.Need-same-length-5

@@ -1,6 +1,6 @@
 -- `fresh::fresh_domains` meets its contract.
 use mathlib.Core.Path.{refl}
-use Rattle.cache.specs.Fresh.{freshDomains}
+use Rattle.steps.specs.Fresh.{freshDomains}
 use Rattle.fresh.proofs.fresh_domains.Statement.{statement}
 use Rattle.fresh.proofs.fresh_domains.Tie as tie
 

@@ -1,6 +1,6 @@
 -- `fresh::fresh_tables` meets its contract.
-use Rattle.cache.specs.Tables.{Tables}
-use Rattle.cache.specs.Step.{tablesOf}
+use Rattle.steps.specs.Tables.{Tables}
+use Rattle.steps.specs.Step.{tablesOf}
 use Rattle.fresh.proofs.FillLaws.{fresh-refused, fresh-made}
 use borrow.Author.Needs.{needs}
 use Rattle.fresh.proofs.fresh_tables.Statement.{statement}

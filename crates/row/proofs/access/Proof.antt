@@ -1,10 +1,10 @@
 -- `row::access` meets its contract.
 use borrow.Author.Needs.{needs}
-use mathlib.Core.Path.{_≡_, sym, _∙_}
+use mathlib.Core.Path.{_≡_, sym, ap, _∙_}
 use mathlib.Core.Bool.{true}
 use lib.ListN.{length}
 use Rattle.replacement.specs.Calls.{inLimits}
-use Rattle.row.specs.Calls.{accessOf}
+use Rattle.row.specs.Calls.{told, accessOf}
 use Rattle.row.specs.Inside.{Usable}
 use Rattle.row.proofs.RuleLaws.{fill-usable}
 use Rattle.row.proofs.WorkLaws.{serve-hit, serve-pass, serve-miss, some-fill, no-fill}
@@ -48,8 +48,9 @@ returns-2 c =
     let r = c .before .before .before .before in
     let a = entry r .args in
     rw (limits r, ← (r .as-read .ensures))
+    (ap told
     (serve-hit (a .rule) (a .tag) (a .store) (a .tags .now) (a .lines) (r .as-read .result) (c .before .before .hit-way .ensures) (c .before .if2 .taken)
-    (c .hit .ensures))
+    (c .hit .ensures)))
 
 same-length-2 : tie.Need-same-length-2
 same-length-2 c = search needs
@@ -60,8 +61,9 @@ returns-3 c =
     let r = c .before .before .before .before in
     let a = entry r .args in
     rw (limits r, ← (r .as-read .ensures))
+    (ap told
     (serve-pass (a .rule) (a .tag) (a .store) (a .tags .now) (a .lines) (r .as-read .result) (c .before .before .hit-way .ensures) (c .before .if2 .left)
-    (no-fill (length (a .tags .now)) (r .as-read .result .fill) (c .if3 .taken)))
+    (no-fill (length (a .tags .now)) (r .as-read .result .fill) (c .if3 .taken))))
 
 bring-requires : tie.Need-bring-requires
 bring-requires c κs =
@@ -78,10 +80,11 @@ returns-4 c =
     let r = c .before .before .before .before .before .before .before .before in
     let a = entry r .args in
     rw (limits r, ← (r .as-read .ensures))
+    (ap told
     (serve-miss (a .rule) (a .tag) (a .store) (a .tags .now) (a .lines) (r .as-read .result)
     (c .before .before .before .before .before .before .hit-way .ensures) (c .before .before .before .before .before .if2 .left)
     (some-fill (length (a .tags .now)) (a .rule) (r .as-read .result .fill) (usable r) (c .before .before .before .before .if3 .left))
-    (c .before .before .bring .ensures))
+    (c .before .before .bring .ensures)))
 
 pub access-spec : {M : Type 1} → statement M
 access-spec =

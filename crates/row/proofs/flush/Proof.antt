@@ -1,7 +1,7 @@
 -- `row::flush` meets its contract.
 use borrow.Author.Needs.{needs}
-use mathlib.Core.Path.{sym, _∙_}
-use Rattle.row.specs.Calls.{flushOf}
+use mathlib.Core.Path.{sym, ap, _∙_}
+use Rattle.row.specs.Calls.{told, flushOf}
 use Rattle.row.proofs.WorkLaws.{flush-hit, flush-absent}
 use Rattle.row.proofs.flush.Statement.{statement}
 use Rattle.row.proofs.flush.Tie as tie
@@ -31,8 +31,9 @@ returns-2 c =
     let r = c .before .before .before .before in
     let a = r .before .before .before .before .args in
     rw ((sym (r .before .before .is-ways .ensures) ∙ r .before .if1 .taken), ← (r .as-read .ensures))
+    (ap told
     (flush-hit (r .as-read .result) (a .tag) (a .tags .now) (a .lines) (c .before .before .before .hit-way .ensures) (c .before .before .if2 .taken)
-    (c .before .has .ensures) (c .flushed .ensures))
+    (c .before .has .ensures) (c .flushed .ensures)))
 
 returns-3 : tie.Need-returns-3
 unfolding flushOf
@@ -40,7 +41,7 @@ returns-3 c =
     let r = c .before .before in
     let a = r .before .before .before .before .args in
     rw ((sym (r .before .before .is-ways .ensures) ∙ r .before .if1 .taken), ← (r .as-read .ensures))
-    (flush-absent (r .as-read .result) (a .tag) (a .tags .now) (a .lines) (c .before .hit-way .ensures) (c .if2 .left))
+    (ap told (flush-absent (r .as-read .result) (a .tag) (a .tags .now) (a .lines) (c .before .hit-way .ensures) (c .if2 .left)))
 
 pub flush-spec : {M : Type 1} → statement M
 flush-spec =

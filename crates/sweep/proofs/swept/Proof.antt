@@ -4,7 +4,7 @@ use Prim.Native.Nat.{ℕ}
 use lib.ListN.{length}
 use Rattle.waymap.specs.Bits.{bit}
 use Rattle.sweep.specs.Clean.{wiped}
-use Rattle.row.specs.Calls.{rowOf}
+use Rattle.row.specs.Calls.{rowOf, told}
 use Rattle.sweep.specs.Sweep.{drops, sweptLines, sweepBy}
 use Rattle.policy.specs.declared.Maps.{Maps}
 use Rattle.policy.proofs.ReadLaws.{hit-below}
@@ -34,11 +34,11 @@ unfolding sweepBy
 returns c =
     let gone = ap (λ (p : Maps). p .hit) (c .before .before .before .before .before .before .as-read .ensures) in
     let a = c .before .before .before .before .before .before .before .before .args in
-    λ i. record {
+    λ i. told (record {
       answer = (c .before .before .before .before .before .dropped .ensures ∙ ap (λ (n : ℕ). drops n (a .lines)) gone) i;
       row = rowOf ((c .before .before .wipe .ensures ∙ ap (λ (n : ℕ). wiped (bit n) (a .tags .now)) gone) i)
           ((c .before .before .before .before .swept .ensures ∙ ap (λ (n : ℕ). sweptLines n (a .sweep .change) (a .lines)) gone) i);
-    }
+    })
 
 pub swept-spec : {M : Type 1} → statement M
 swept-spec =

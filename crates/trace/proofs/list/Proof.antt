@@ -1,5 +1,5 @@
 -- `trace::list` meets its contract.
-use Rattle.cache.specs.Step.{tablesOf}
+use Rattle.steps.specs.Step.{tablesOf}
 use Rattle.trace.proofs.ListLaws.{refused-is, listed-counts}
 use borrow.Author.Needs.{needs}
 use Rattle.trace.proofs.list.Statement.{statement}

@@ -2,7 +2,7 @@
 use Prim.Native.Nat.{zero-le}
 use mir.Facts.{fits-below}
 use borrow.Author.Needs.{needs}
-use Rattle.cache.specs.Step.{tablesOf}
+use Rattle.steps.specs.Step.{tablesOf}
 use Rattle.trace.proofs.ListLaws.{fitting, lent-sized, listed-is}
 use Rattle.trace.proofs.list_file.Statement.{statement}
 use Rattle.trace.proofs.list_file.Tie as tie

@@ -1,6 +1,6 @@
 -- `trace::listing` meets its contract.
 use mathlib.Core.Path.{_∙_}
-use Rattle.cache.specs.Step.{tablesOf}
+use Rattle.steps.specs.Step.{tablesOf}
 use Rattle.trace.specs.Inside.{writtenOf, listedBy}
 use Rattle.trace.proofs.RunLaws.{listing-is, room-for-head, room-for-lines, listing-short}
 use Rattle.trace.proofs.listing.Statement.{statement}

@@ -4,7 +4,8 @@ use Prim.Native.Nat.{_-_}
 use borrow.Author.Count.{falls}
 use borrow.Author.Needs.{needs}
 use Rattle.geometry.specs.Geometry.{Lengths}
-use Rattle.cache.specs.Step.{tablesOf, outcome}
+use Rattle.steps.specs.Step.{tablesOf}
+use Rattle.cache.specs.Calls.{outcome}
 use Rattle.command.specs.Command.{commandIs}
 use Rattle.tracefile.proofs.PlaceLaws.{next-fits}
 use Rattle.trace.proofs.RunLaws.{Running, run-begin, run-room, run-turned, run-rest, run-short, run-ended}

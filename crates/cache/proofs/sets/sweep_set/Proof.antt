@@ -1,6 +1,6 @@
 -- `cache::sets::sweep_set` meets its contract.
 use Rattle.sweep.specs.Sweep.{sweepBy}
-use Rattle.cache.proofs.SetLaws.{row-done}
+use Rattle.cache.proofs.RowLaws.{row-done}
 use borrow.Author.Needs.{needs}
 use Rattle.cache.proofs.sets.sweep_set.Statement.{statement}
 use Rattle.cache.proofs.sets.sweep_set.Tie as tie

@@ -2,8 +2,8 @@
 use mathlib.Core.Path.{sym, _∙_}
 use Prim.Native.Nat.{_-_}
 use native.Mathlib.Omega.{arith}
-use Rattle.cache.specs.Tables.{Tables}
-use Rattle.cache.specs.Step.{tablesOf}
+use Rattle.steps.specs.Tables.{Tables}
+use Rattle.steps.specs.Step.{tablesOf}
 use Rattle.cache.proofs.SweepLaws.{Sweeping, begin, turned, end}
 use borrow.Author.Needs.{needs}
 use Rattle.cache.proofs.sets.sweep_sets.Statement.{statement}

@@ -2,7 +2,7 @@
 use borrow.Author.Needs.{needs}
 use Rattle.geometry.specs.Address.{setOf, tagOf}
 use Rattle.cache.specs.Inside.{workOf, workAt}
-use Rattle.cache.proofs.SetLaws.{row-done}
+use Rattle.cache.proofs.RowLaws.{row-done}
 use Rattle.cache.proofs.sets.use_set.Statement.{statement}
 use Rattle.cache.proofs.sets.use_set.Tie as tie
 
@@ -12,23 +12,23 @@ place-of-requires c κs = search needs
 span-of-requires : tie.Need-span-of-requires
 span-of-requires c κs = search needs
 
-mul-t18 : tie.Need-mul-t18
-mul-t18 c = search needs
+mul-t17 : tie.Need-mul-t17
+mul-t17 c = search needs
 
-slice-read-t20 : tie.Need-slice-read-t20
-slice-read-t20 c = search needs
+slice-read-t19 : tie.Need-slice-read-t19
+slice-read-t19 c = search needs
 
-mul-t21 : tie.Need-mul-t21
-mul-t21 c = search needs
+mul-t20 : tie.Need-mul-t20
+mul-t20 c = search needs
 
-slice-read-t23 : tie.Need-slice-read-t23
-slice-read-t23 c = search needs
+slice-read-t22 : tie.Need-slice-read-t22
+slice-read-t22 c = search needs
 
-mul-t24 : tie.Need-mul-t24
-mul-t24 c = search needs
+mul-t23 : tie.Need-mul-t23
+mul-t23 c = search needs
 
-slice-read-t26 : tie.Need-slice-read-t26
-slice-read-t26 c = search needs
+slice-read-t25 : tie.Need-slice-read-t25
+slice-read-t25 c = search needs
 
 mul-on-row : tie.Need-mul-on-row
 mul-on-row c = search needs
@@ -84,7 +84,7 @@ returns c =
     (row-done (a .g .ways) (c .before .before .before .before .before .before .before .before .before .place-of .result .set)
     (c .before .before .before .before .before .before .before .before .span-of .result .start)
     (c .before .before .before .before .before .before .before .before .span-of .result .stop)
-    (workOf (a .flush) (a .store) (a .g .rule) (a .maps) (c .before .before .before .before .before .before .before .before .before .place-of .result .tag))
+    (workOf (a .usage) (a .g .rule) (a .maps) (c .before .before .before .before .before .before .before .before .before .place-of .result .tag))
     (a .tags .now) (a .valid .now) (a .dirty .now) (a .words .now) (c .before .before .before .on-row .result) (c .before .before .before .on-row .last .0)
     (c .before .before .before .before .before .before .before .before .span-of .ensures .start-is)
     (c .before .before .before .before .before .before .before .before .span-of .ensures .stop-is) (c .before .before .before .on-row .ensures))
@@ -95,12 +95,12 @@ use-set-spec =
     (tie.spec
     place-of-requires
     span-of-requires
-    mul-t18
-    slice-read-t20
-    mul-t21
-    slice-read-t23
-    mul-t24
-    slice-read-t26
+    mul-t17
+    slice-read-t19
+    mul-t20
+    slice-read-t22
+    mul-t23
+    slice-read-t25
     mul-on-row
     sub-on-row
     part-on-row-start

@@ -1,6 +1,6 @@
 -- `cache::work::line` meets its contract.
-use Rattle.cache.specs.Tables.{Tables}
-use Rattle.cache.specs.Step.{tablesOf}
+use Rattle.steps.specs.Tables.{Tables}
+use Rattle.steps.specs.Step.{tablesOf}
 use Rattle.cache.proofs.DeedLaws.{line-down, line-room, line-done}
 use borrow.Author.Needs.{needs}
 use Rattle.cache.proofs.work.line.Statement.{statement}
@@ -19,7 +19,7 @@ turned-down-requires c κs = search needs
 returns : tie.Need-returns
 returns c =
     let entry = c .before .before .before .before .before .before .before in
-    line-down (entry .args .g) (entry .args .own) (entry .args .flush) (entry .args .store) (entry .args .address) (lent entry)
+    line-down (entry .args .g) (entry .args .own) (entry .args .usage) (entry .args .address) (lent entry)
     (c .before .before .line-refusal .ensures)
     (c .before .if1 .taken) (c .turned-down .ensures)
 
@@ -30,7 +30,7 @@ after-use-requires : tie.Need-after-use-requires
 after-use-requires c κs =
     let asked = c .before .before .before .before .before .before .before .before .before .before .before .before .before .before in
     let entry = asked .before .before .before .before .before in
-    line-room (entry .args .g) (entry .args .own) (entry .args .flush) (entry .args .store) (entry .args .address) (lent entry) (asked .line-refusal .ensures)
+    line-room (entry .args .g) (entry .args .own) (entry .args .usage) (entry .args .address) (lent entry) (asked .line-refusal .ensures)
     (c .before .before .before .before .before .before .before .before .before .before .before .before .before .if1 .left)
 
 same-length : tie.Need-same-length
@@ -51,7 +51,7 @@ returns-2 c =
     let entry = asked .before .before .before .before .before in
     let done = c .before .before .before .before .before .before .before .before .before .use-set in
     let last = done .last .1 in
-    line-done (entry .args .g) (entry .args .own) (entry .args .flush) (entry .args .store) (entry .args .address) (lent entry) (asked .line-refusal .ensures)
+    line-done (entry .args .g) (entry .args .own) (entry .args .usage) (entry .args .address) (lent entry) (asked .line-refusal .ensures)
     {v = tablesOf (last .0) (last .1 .0) (last .1 .1 .0) (last .1 .1 .1 .0)}
     (c .before .before .before .before .before .before .before .before .before .before .before .before .before .before .if1 .left) (done .ensures)
     (c .after-use .ensures)

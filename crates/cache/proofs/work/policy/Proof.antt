@@ -1,6 +1,6 @@
 -- `cache::work::policy` meets its contract.
-use Rattle.cache.specs.Tables.{Tables}
-use Rattle.cache.specs.Step.{tablesOf}
+use Rattle.steps.specs.Tables.{Tables}
+use Rattle.steps.specs.Step.{tablesOf}
 use Rattle.cache.proofs.DeedLaws.{policy-down, policy-done}
 use borrow.Author.Needs.{needs}
 use Rattle.cache.proofs.work.policy.Statement.{statement}

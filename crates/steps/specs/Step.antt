@@ -18,8 +18,7 @@ use Rattle.verdict.specs.Refusal.{refusal}
 use Rattle.geometry.specs.declared.Geometry.{Geometry}
 use Rattle.domains.specs.declared.Domains.{Domains}
 use Rattle.geometry.specs.Address.{setOf, tagOf}
-use Rattle.cache.specs.Tables.{Tables, lengths, rowAt, putRow, eachSet, total}
-use Rattle.cache.specs.declared.Stepped.{Stepped}
+use Rattle.steps.specs.Tables.{Tables, lengths, rowAt, putRow, eachSet, total}
 
 -- What a step finds and leaves.
 pub record State : Type 0 where
@@ -86,9 +85,6 @@ step g d kind arg s =
     (refusal g (lengths (s .tables)) (policies (g .ways) (s .domains)) (domainOf (s .domains) d .counts) d kind arg)
     (stepBy (kindOf kind) g d arg s) s
 
--- The same of the four lent tables and the domains, as the code has them.
+-- The four lent tables, as the code has them.
 abbrev pub tablesOf : List ℕ → List ℕ → List ℕ → List ℕ → Tables
 tablesOf tags valid dirty words = record { tags = tags; valid = valid; dirty = dirty; words = words }
-
-abbrev pub outcome : Stepped → Tables → Outcome
-outcome r t = record { answer = answerOf (r .answer); state = record { tables = t; domains = r .domains } }

@@ -1,48 +1,45 @@
 -- A set's row in the tables: lent and put back, and rows that do not touch.
-use mathlib.Core.Path.{_≡_, refl, sym, ap, ap₂, _∙_}
-use mathlib.Core.Bool.{Bool, cond}
+use mathlib.Core.Path.{_≡_, refl, sym, ap, ap₂, subst, _∙_}
+use mathlib.Core.Bool.{Bool, true, cond, _&&_}
 use mathlib.Core.List.{List, [], _∷_, _++_, append-assoc}
 use Prim.Native.Nat.{ℕ, zero, suc, _+_, _-_, _*_, _≤_, _<_}
-use native.Mathlib.Nat.{mul-suc}
+use native.Mathlib.Nat.{mul-suc, mul-le-mul-right, suc-mul}
 use native.Mathlib.Omega.{arith}
 use lib.Dec.{eqb, ltb}
 use borrow.Author.Tests.{eqb-true, eqb-false, ltb-true, ltb-false, lt-ltb, le-ltb}
 use lib.ListN.{length, getD, take, drop, set, length-set, length-append, length-drop, take-append-drop}
 use lib.Seq.{length-take-le, take-append-le, drop-append-le, drop-append-add, take-at, drop-at, drop-drop, getD-set-same, getD-set-other}
-use borrow.Rule.Slice.PartMut.{putMid}
-use Rattle.waymap.proofs.Booleans.{cases}
-use Rattle.row.specs.Row.{Row, Effect}
-use Rattle.row.specs.Calls.{rowOf, result}
-use Rattle.row.specs.declared.Done.{Done}
-use Rattle.row.specs.declared.Lines.{Lines}
+use Rattle.waymap.proofs.Booleans.{cases, and-left, and-right}
+use Rattle.row.specs.Row.{Row}
+use Rattle.geometry.specs.Geometry.{within, sized}
 use Rattle.geometry.specs.declared.Geometry.{Geometry}
-use Rattle.cache.specs.Tables.{Tables, rowAt, putRow, eachSet, total}
-use Rattle.cache.specs.Step.{tablesOf}
-use Rattle.cache.specs.Inside.{Shaped, Work, RowWork, onRow}
-use Rattle.cache.proofs.PlaceLaws.{row-within}
+use Rattle.geometry.proofs.GeometryLaws.{limited}
+use Rattle.steps.specs.Tables.{Tables, lengths, rowAt, putRow, eachSet, total}
+use Rattle.steps.specs.Inside.{Shaped}
 
--- ---- the work on a row, lent from `start` up to `stop`
+-- ---- lengths
 
-pub row-done : (W s start stop : ℕ) (f : Row → Effect) (tags valid dirty words : List ℕ) (d : Done) (ts : List ℕ) → start ≡ s * W → stop ≡ start + W
-    → result d ts ≡ f (rowOf (take (stop - start) (drop start tags)) (record { valid = getD valid s 0; dirty = getD dirty s 0; word = getD words s 0 }))
-    → RowWork (d .answer) (tablesOf (putMid start (stop - start) tags ts) (set valid s (d .lines .valid)) (set dirty s (d .lines .dirty))
-    (set words s (d .lines .word)))
-    (onRow W s f (tablesOf tags valid dirty words))
-unfolding onRow rowAt putRow
-row-done W s start stop f tags valid dirty words d ts p q e =
-    let wide : stop - start ≡ W = omega arith in
-    rw (wide, p) (λ i. record {
-      answer = same i .answer;
-      tables = record {
-        tags = take (s * W) tags ++ (same i .row .tags ++ drop W (drop (s * W) tags));
-        valid = set valid s (same i .row .valid);
-        dirty = set dirty s (same i .row .dirty);
-        words = set words s (same i .row .word);
-      };
-    })
-  where
-    same : result d ts ≡ f (rowAt W s (tablesOf tags valid dirty words))
-    same = let wide : stop - start ≡ W = omega arith in rw (wide, p) at e
+-- there is room for a whole row
+pub row-within : (s S W : ℕ) → s < S → s * W + W ≤ S * W
+row-within s S W h = subst (λ (n : ℕ). n ≤ S * W) (suc-mul s W) (mul-le-mul-right W h)
+
+-- what is within the limits and of the right lengths is shaped
+pub shaped : (g : Geometry) (t : Tables) → within g ≡ true → sized g (lengths t) ≡ true → Shaped g t
+unfolding sized
+shaped g t w z =
+    let tags = eqb (length (t .tags)) (g .sets * g .ways) in
+    let valid = eqb (length (t .valid)) (g .sets) in
+    let dirty = eqb (length (t .dirty)) (g .sets) in
+    let words = eqb (length (t .words)) (g .sets) in
+    let three = and-left (tags && valid && dirty) words z in
+    let two = and-left (tags && valid) dirty three in
+    record {
+      limited = limited g w;
+      tags-long = eqb-true (length (t .tags)) (g .sets * g .ways) (and-left tags valid two);
+      valid-long = eqb-true (length (t .valid)) (g .sets) (and-right tags valid two);
+      dirty-long = eqb-true (length (t .dirty)) (g .sets) (and-right (tags && valid) dirty three);
+      words-long = eqb-true (length (t .words)) (g .sets) (and-right (tags && valid && dirty) words z);
+    }
 
 -- ---- parts of a list with another part put in: ys, k of them, from a on
 

@@ -5,8 +5,8 @@ use Rattle.replacement.specs.Rule.{Rule, ruleOf}
 use Rattle.domains.specs.Domains.{maxDomains, noDomain}
 use Rattle.domains.specs.declared.Domains.{Domains}
 use Rattle.geometry.specs.declared.Geometry.{Geometry}
-use Rattle.cache.specs.Tables.{Tables}
-use Rattle.cache.specs.Step.{State}
+use Rattle.steps.specs.Tables.{Tables}
+use Rattle.steps.specs.Step.{State}
 
 unfoldable pub freshTables : Geometry → Tables
 freshTables g = record {

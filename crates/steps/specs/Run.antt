@@ -3,7 +3,7 @@ use mathlib.Core.List.{List, [], _∷_}
 use Prim.Native.Nat.{ℕ}
 use Rattle.command.specs.Command.{Command}
 use Rattle.geometry.specs.declared.Geometry.{Geometry}
-use Rattle.cache.specs.Step.{State, Outcome, step}
+use Rattle.steps.specs.Step.{State, Outcome, step}
 
 abbrev pub stepOn : Geometry → Command → State → Outcome
 stepOn g c s = step g (c .domain) (c .kind) (c .argument) s

@@ -1,0 +1,40 @@
+-- Document 01's words and values tell any two answers apart.
+use mathlib.Core.Path.{_≡_, refl}
+use mathlib.Core.Bool.{true, false, cond}
+use mathlib.Core.List.{List}
+use Prim.Native.Nat.{ℕ}
+use lib.Dec.{eqb}
+use lib.ListN.{getD}
+use Rattle.command.specs.Answer.{answerOf}
+use Rattle.command.specs.declared.Answer.{Answer}
+use Rattle.command.specs.declared.Answer.the-variants.{Hit, Fill, Evict, Pass, Flush, Absent, Policy, Refused}
+
+-- The answer that a word and values tell.
+answerIn : List ℕ → Answer
+answerIn l =
+    let word = getD l 0 0 in
+    let first = getD l 1 0 in
+    let second = getD l 2 0 in
+    cond (eqb word 0) (Hit first)
+    (cond (eqb word 1) (Fill first)
+    (cond (eqb word 2) (Evict first second (eqb (getD l 3 0) 1))
+    (cond (eqb word 3) Pass
+    (cond (eqb word 4) (Flush first (eqb second 1))
+    (cond (eqb word 5) Absent (cond (eqb word 6) (Policy first second) (Refused first)))))))
+
+answer-again : (a : Answer) → answerIn (answerOf a) ≡ a
+unfolding answerIn
+answer-again (Hit w) = refl
+answer-again (Fill w) = refl
+answer-again (Evict w tag true) = refl
+answer-again (Evict w tag false) = refl
+answer-again Pass = refl
+answer-again (Flush w true) = refl
+answer-again (Flush w false) = refl
+answer-again Absent = refl
+answer-again (Policy n d) = refl
+answer-again (Refused n) = refl
+
+-- So a contract that equates words and values settles the whole answer.
+pub answer-injective : (a b : Answer) → answerOf a ≡ answerOf b → a ≡ b
+answer-injective a b e = rw (← (answer-again a), ← (answer-again b), e)

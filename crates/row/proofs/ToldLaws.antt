@@ -1,0 +1,10 @@
+-- Document 01's words tell any two effects apart.
+use mathlib.Core.Path.{_≡_, ap}
+use Rattle.command.proofs.AnswerLaws.{answer-injective}
+use Rattle.row.specs.Row.{Effect}
+use Rattle.row.specs.Calls.{Told, told}
+
+pub told-injective : (e f : Effect) → told e ≡ told f → e ≡ f
+told-injective e f q =
+    let same = answer-injective (e .answer) (f .answer) (ap (λ (t : Told). t .answer) q) in
+    λ i. record { answer = same i; row = q i .row }

@@ -1,0 +1,25 @@
+-- What the laws of a step go by.
+use mathlib.Core.Path.{_≡_}
+use mathlib.Core.Bool.{Bool, true, false}
+use Prim.Native.Nat.{ℕ, _*_}
+use lib.ListN.{length}
+use Rattle.replacement.specs.Rule.{Rule}
+use Rattle.row.specs.Row as Row
+use Rattle.row.specs.Row.{Row, Effect}
+use Rattle.policy.specs.declared.Maps.{Maps}
+use Rattle.geometry.specs.Inside.{Limited}
+use Rattle.geometry.specs.declared.Geometry.{Geometry}
+use Rattle.steps.specs.Tables.{Tables}
+
+-- Tables of the right lengths under a geometry within the limits.
+pub record Shaped (g : Geometry) (t : Tables) : Type 0 where
+  pub limited : Limited g
+  pub tags-long : length (t .tags) ≡ g .sets * g .ways
+  pub valid-long : length (t .valid) ≡ g .sets
+  pub dirty-long : length (t .dirty) ≡ g .sets
+  pub words-long : length (t .words) ≡ g .sets
+
+-- An access or a flush, under a rule.
+abbrev pub lineWork : Bool → Rule → Bool → Maps → ℕ → Row → Effect
+lineWork true R store = Row.flush
+lineWork false R store = λ p tag. Row.access R p tag store
