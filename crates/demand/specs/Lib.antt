@@ -1,0 +1,3 @@
+-- Document 01, "The struck-out run", written out flat.
+pub mod Free
+pub mod Demand
