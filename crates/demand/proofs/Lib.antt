@@ -1,1 +1,7 @@
--- The statement, derived.
+-- The statement, derived from the theorem `isolation`.
+pub mod FreeLaws
+pub mod LimitLaws
+pub mod RunLaws
+pub mod SeenLaws
+pub mod Witness
+pub mod Demand

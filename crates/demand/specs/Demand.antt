@@ -143,8 +143,12 @@ pub record There (g : Geometry) (d : ℕ) (s : State) : Type 0 where
   pub hit-there : (w : ℕ) → digit (domainAt d s .hit) w ≡ 1 → w < g .ways
   pub fill-there : (w : ℕ) → digit (domainAt d s .fill) w ≡ 1 → digit (domainAt d s .hit) w ≡ 1
 
--- Demand 3 of a list of steps: the chosen domain is told and sees the same in its run and in the run of the struck-out list.
-pub record Demand (g : Geometry) (d : ℕ) (cs : List Command) : Type 0 where
-  pub same : seenIn g d cs ≡ seenIn g d (struckOut d cs)
+-- The chosen domain is told and sees the same in the runs of two lists, each from a fresh cache.
+pub record Indistinguishable (g : Geometry) (d : ℕ) (cs ds : List Command) : Type 0 where
+  pub same : seenIn g d cs ≡ seenIn g d ds
   pub there : There g d (end g cs (fresh g))
-  pub there-struck : There g d (end g (struckOut d cs) (fresh g))
+  pub there-too : There g d (end g ds (fresh g))
+
+-- Demand 3 of a list of steps: a list and its struck-out list.
+abbrev pub Demand : Geometry → ℕ → List Command → Type 0
+Demand g d cs = Indistinguishable g d cs (struckOut d cs)

@@ -26,7 +26,8 @@ use Rattle.steps.specs.Run.{stepOn, answersOf, finally}
 use Rattle.steps.specs.Fresh.{freshTables, freshDomains, fresh}
 use Rattle.purge.specs.Purge.{belongs, keeps, purge}
 use Rattle.isolation.specs.StruckOut.{answersTo, ownAnswers, verdicts, SameTo, StruckOut}
-use Rattle.isolation.proofs.Relation.{Whole, Related}
+use Rattle.steps.proofs.RunLaws.{fresh-whole, fresh-domain}
+use Rattle.isolation.proofs.Relation.{Related}
 use Rattle.isolation.proofs.RowUnwinding.{rule, view-same}
 use Rattle.isolation.proofs.LineUnwinding.{policy-cut}
 use Rattle.isolation.proofs.Unwinding.{output-consistent, verdict-consistent, step-consistent, locally-respects}
@@ -38,39 +39,18 @@ module _ (g : Geometry) (limits : within g ≡ true) (d : ℕ) (low : d < 16) wh
   l : Limited g
   l = limited g limits
 
-  fresh-whole : Whole g (fresh g)
-  unfolding fresh freshTables freshDomains
-  fresh-whole = record {
-    shaped = record {
-      limited = l;
-      tags-long = length-replicate (g .sets * g .ways) 0;
-      valid-long = length-replicate (g .sets) 0;
-      dirty-long = length-replicate (g .sets) 0;
-      words-long = length-replicate (g .sets) (ruleOf (g .rule) (g .ways) .fresh);
-    };
-    sixteen = refl;
-  }
-
-  -- no domain has a way
-  fresh-domain : (e : ℕ) → domainOf (fresh g .domains) e ≡ noDomain
-  unfolding fresh freshDomains domainOf
-  fresh-domain e =
-      cases (ltb e 16)
-      (λ t. getD-replicate 16 e noDomain noDomain (ltb-true e 16 t))
-      (λ t. List·getD-eq-default (replicate 16 noDomain) noDomain (ltb-false e 16 t))
-
   no-hit : (e w : ℕ) → bit (policies (g .ways) (fresh g .domains) e .hit) w ≡ false
   unfolding policies asRead
-  no-hit e w = rw (fresh-domain e, bit-word 16 (λ (v : ℕ). bit 0 v && ltb v (g .ways)) w, bit-none w) (and-false (ltb w 16))
+  no-hit e w = rw (fresh-domain g limits e, bit-word 16 (λ (v : ℕ). bit 0 v && ltb v (g .ways)) w, bit-none w) (and-false (ltb w 16))
 
   no-fill : (e w : ℕ) → bit (policies (g .ways) (fresh g .domains) e .fill) w ≡ false
   unfolding policies asRead
-  no-fill e w = rw (fresh-domain e, bit-word 16 (λ (v : ℕ). bit 0 v && (bit 0 v && ltb v (g .ways))) w, bit-none w) (and-false (ltb w 16))
+  no-fill e w = rw (fresh-domain g limits e, bit-word 16 (λ (v : ℕ). bit 0 v && (bit 0 v && ltb v (g .ways))) w, bit-none w) (and-false (ltb w 16))
 
   fresh-related : Related g d (fresh g) (fresh g)
   fresh-related = record {
-    whole-a = fresh-whole;
-    whole-b = fresh-whole;
+    whole-a = fresh-whole g limits;
+    whole-b = fresh-whole g limits;
     policy-same = λ e. refl;
     separate = record {
       ways-apart = λ e f he hf n w. rw (no-hit e w);

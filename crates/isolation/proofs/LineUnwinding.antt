@@ -26,78 +26,16 @@ use Rattle.geometry.specs.Address.{setOf, tagOf}
 use Rattle.steps.specs.Tables.{Tables, rowAt, putRow}
 use Rattle.steps.specs.Step.{State, Outcome, onSet, rowEffect, useLine}
 use Rattle.steps.specs.Inside.{Shaped, lineWork}
-use Rattle.steps.proofs.SetLaws.{row-long, put-shaped, row-put-same, row-put-other}
+use Rattle.steps.proofs.SetLaws.{row-long}
+use Rattle.steps.proofs.StateLaws.{work-long, line-whole, line-domain, line-domain-other, line-policy, line-row, line-row-other}
 use Rattle.domains.proofs.DomainLaws as DomainLaws
-use Rattle.isolation.proofs.Relation.{Whole, Separate, Unheld, Unwritten, Alike, Related}
+use Rattle.isolation.proofs.Relation.{Separate, Unheld, Unwritten, Alike, Related}
 use Rattle.isolation.proofs.RowUnwinding.{own-access, own-flush, other-access, other-flush}
 
 -- a policy as read is cut
 pub policy-cut : (W : ℕ) (ds : Domains) (e : ℕ) → Cut W (policies W ds e)
 unfolding policies
 policy-cut W ds e = cut-read W (record { hit = domainOf ds e .hit; fill = domainOf ds e .fill })
-
--- ---- the state after a domain's work on one set
-
-module _ (g : Geometry) (s : State) (whole : Whole g s) (e : ℕ) (k : e < 16) (set : ℕ) (h : set < g .sets) (x : Effect)
-    (long : length (x .row .tags) ≡ g .ways) where
-  abbrev after : State
-  after = onSet g e set x s .state
-
-  line-whole : Whole g (onSet g e set x s .state)
-  unfolding onSet
-  line-whole = record {
-    shaped = put-shaped g (s .tables) (x .row) (whole .shaped) set h long;
-    sixteen = DomainLaws.put-sixteen (s .domains) e (record {
-      hit = domainOf (s .domains) e .hit;
-      fill = domainOf (s .domains) e .fill;
-      counts = counted
-          (x .answer) (domainOf (s .domains) e .counts);
-    }) (whole .sixteen);
-  }
-
-  line-domain : domainOf (onSet g e set x s .state .domains) e ≡ record {
-    hit = domainOf (s .domains) e .hit;
-    fill = domainOf
-        (s .domains) e .fill;
-    counts = counted (x .answer) (domainOf (s .domains) e .counts);
-  }
-  unfolding onSet
-  line-domain = DomainLaws.put-same (s .domains) e (record {
-    hit = domainOf (s .domains) e .hit;
-    fill = domainOf (s .domains) e .fill;
-    counts = counted
-        (x .answer) (domainOf (s .domains) e .counts);
-  }) (whole .sixteen) k
-
-  line-domain-other : (f : ℕ) → (f ≡ e → ⊥) → domainOf (onSet g e set x s .state .domains) f ≡ domainOf (s .domains) f
-  unfolding onSet
-  line-domain-other f n = DomainLaws.put-other (s .domains) e (record {
-    hit = domainOf (s .domains) e .hit;
-    fill = domainOf
-        (s .domains) e .fill;
-    counts = counted (x .answer) (domainOf (s .domains) e .counts);
-  }) f n
-
-  -- the policies stay
-  line-policy : (f : ℕ) → policies (g .ways) (onSet g e set x s .state .domains) f ≡ policies (g .ways) (s .domains) f
-  unfolding policies
-  line-policy f =
-      cases (eqb f e)
-      (λ t. rw (eqb-true f e t) (ap (λ (y : Domain). asRead (g .ways) (record { hit = y .hit; fill = y .fill })) line-domain))
-      (λ t. ap (λ (y : Domain). asRead (g .ways) (record { hit = y .hit; fill = y .fill })) (line-domain-other f (eqb-false f e t)))
-
-  line-row : rowAt (g .ways) set (onSet g e set x s .state .tables) ≡ x .row
-  unfolding onSet
-  line-row = row-put-same g (s .tables) (x .row) (whole .shaped) set h long
-
-  line-row-other : (u : ℕ) → (u ≡ set → ⊥) → rowAt (g .ways) u (onSet g e set x s .state .tables) ≡ rowAt (g .ways) u (s .tables)
-  unfolding onSet
-  line-row-other u n = row-put-other g (s .tables) (x .row) (whole .shaped) set h long u n
-
--- the work keeps the row's length
-work-long : (flushes store : Bool) (R : Rule) (p : Maps) (tag : ℕ) (r : Row) → length (lineWork flushes R store p tag r .row .tags) ≡ length (r .tags)
-work-long true store R p tag r = flush-long p tag r
-work-long false store R p tag r = access-long R p tag store r
 
 module _ (g : Geometry) (l : Limited g) (d : ℕ) (low : d < 16) (flushes store : Bool) (arg : ℕ) (a b : State) (rel : Related g d a b) where
   abbrev work : Maps → ℕ → Row → Effect

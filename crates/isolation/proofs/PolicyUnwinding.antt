@@ -30,9 +30,19 @@ use Rattle.policy.proofs.ArgumentLaws.{good-maps}
 use Rattle.steps.specs.Tables.{Tables, rowAt, eachSet, total}
 use Rattle.steps.specs.Step.{State, Outcome, changePolicy}
 use Rattle.steps.specs.Inside.{Shaped}
-use Rattle.steps.proofs.SetLaws.{row-long, each-shaped, each-row}
+use Rattle.steps.proofs.SetLaws.{row-long}
+use Rattle.steps.proofs.StateLaws.{
+  Passed,
+  passed,
+  changed-whole,
+  changed-domain,
+  changed-other,
+  changed-policy,
+  changed-policy-other,
+  changed-row,
+}
 use Rattle.domains.proofs.DomainLaws as DomainLaws
-use Rattle.isolation.proofs.Relation.{Whole, Separate, Unheld, Unwritten, Alike, Related}
+use Rattle.isolation.proofs.Relation.{Separate, Unheld, Unwritten, Alike, Related}
 use Rattle.isolation.proofs.RowUnwinding.{rule, clean-alike, own-drops}
 use Rattle.isolation.proofs.LineUnwinding.{policy-cut}
 
@@ -43,22 +53,6 @@ total-same W zero f t u e = refl
 total-same W (suc n) f t u e = ap₂ _+_ (total-same W n f t u (λ s h. e s (omega arith))) (e n (omega arith))
 
 -- ---- what numbers 5, 8 and 9 let pass
-
-record Passed (g : Geometry) (policy : ℕ → Maps) (e arg : ℕ) : Type 0 where
-  good : badArgument (g .ways) arg ≡ false
-  ways-free : sharesWay policy e (newMaps arg) ≡ false
-  nodes-free : sharesNode (ruleOf (g .rule) (g .ways)) policy e (newMaps arg) ≡ false
-
-passed : (g : Geometry) (policy : ℕ → Maps) (e arg : ℕ) → policyRefusal g policy e arg ≡ 0 → Passed g policy e arg
-unfolding policyRefusal
-passed g policy e arg z =
-    cases (badArgument (g .ways) arg)
-    (λ t. absurd (suc-ne-zero 4 (rw t at z)))
-    (λ t. cases (sharesWay policy e (newMaps arg))
-    (λ u. absurd (suc-ne-zero 7 (rw (t, u) at z)))
-    (λ u. cases (sharesNode (ruleOf (g .rule) (g .ways)) policy e (newMaps arg))
-    (λ v. absurd (suc-ne-zero 8 (rw (t, u, v) at z)))
-    (λ v. record { good = t; ways-free = u; nodes-free = v })))
 
 module _ (g : Geometry) (l : Limited g) (policy : ℕ → Maps) (cut : (f : ℕ) → Cut (g .ways) (policy f)) (e arg : ℕ) (p : Passed g policy e arg) where
   -- what is read is what the argument says
@@ -102,38 +96,6 @@ module _ (g : Geometry) (l : Limited g) (d : ℕ) (low : d < 16) (e : ℕ) (k : 
   lets : Passed g (policies (g .ways) (a .domains)) e arg
   lets = passed g policy e arg z
 
-  -- in either state: the policies, the domains and the rows
-  module _ (s : State) (whole : Whole g s) where
-    changed-whole : Whole g (changePolicy g e arg s .state)
-    unfolding changePolicy
-    changed-whole = record {
-      shaped = each-shaped g (cleaned R (policies W (s .domains) e) next) (clean-long R (policies W (s .domains) e) next) (s .tables) (whole .shaped)
-          (g .sets) (omega arith);
-      sixteen = DomainLaws.put-sixteen (s .domains) e (newDomain arg (domainOf (s .domains) e)) (whole .sixteen);
-    }
-
-    changed-domain : domainOf (changePolicy g e arg s .state .domains) e ≡ newDomain arg (domainOf (s .domains) e)
-    unfolding changePolicy
-    changed-domain = DomainLaws.put-same (s .domains) e (newDomain arg (domainOf (s .domains) e)) (whole .sixteen) k
-
-    changed-other : (f : ℕ) → (f ≡ e → ⊥) → domainOf (changePolicy g e arg s .state .domains) f ≡ domainOf (s .domains) f
-    unfolding changePolicy
-    changed-other f n = DomainLaws.put-other (s .domains) e (newDomain arg (domainOf (s .domains) e)) f n
-
-    changed-policy : policies (g .ways) (changePolicy g e arg s .state .domains) e ≡ asRead (g .ways) (newMaps arg)
-    unfolding changePolicy newDomain
-    changed-policy = DomainLaws.policy-same (s .domains) e (newDomain arg (domainOf (s .domains) e)) W (whole .sixteen) k
-
-    changed-policy-other : (f : ℕ) → (f ≡ e → ⊥) → policies (g .ways) (changePolicy g e arg s .state .domains) f ≡ policies (g .ways) (s .domains) f
-    unfolding changePolicy
-    changed-policy-other f n = DomainLaws.policy-other (s .domains) e (newDomain arg (domainOf (s .domains) e)) W f n
-
-    changed-row : (i : ℕ) → i < g .sets → rowAt (g .ways) i (changePolicy g e arg s .state .tables)
-        ≡ cleaned R (policies (g .ways) (s .domains) e) (asRead (g .ways) (newMaps arg)) (rowAt (g .ways) i (s .tables))
-    unfolding changePolicy
-    changed-row i h = each-row g (cleaned R (policies W (s .domains) e) next) (clean-long R (policies W (s .domains) e) next) (s .tables) (whole .shaped)
-        (g .sets) (omega arith) i h
-
   -- ---- the domains stay separate
 
   separate-after : Separate g (policies (g .ways) (changePolicy g e arg a .state .domains))
@@ -145,13 +107,13 @@ module _ (g : Geometry) (l : Limited g) (d : ℕ) (low : d < 16) (e : ℕ) (k : 
           cases (eqb i e)
           (λ t. let same : i ≡ e = eqb-true i e t in
           let other : j ≡ e → ⊥ = λ q. n (same ∙ sym q) in
-          rw (same, changed-policy a (rel .whole-a), changed-policy-other a (rel .whole-a) j other)
+          rw (same, changed-policy g e k arg a (rel .whole-a), changed-policy-other g e k arg a (rel .whole-a) j other)
           (new-apart g l policy (policy-cut W (a .domains)) e arg lets j hj other w))
           (λ t. cases (eqb j e)
           (λ u. let same : j ≡ e = eqb-true j e u in
-          rw (same, changed-policy a (rel .whole-a), changed-policy-other a (rel .whole-a) i (eqb-false i e t))
+          rw (same, changed-policy g e k arg a (rel .whole-a), changed-policy-other g e k arg a (rel .whole-a) i (eqb-false i e t))
           (and-comm (bit (policy i .hit) w) (bit (next .hit) w) ∙ new-apart g l policy (policy-cut W (a .domains)) e arg lets i hi (eqb-false i e t) w))
-          (λ u. rw (changed-policy-other a (rel .whole-a) i (eqb-false i e t), changed-policy-other a (rel .whole-a) j (eqb-false j e u))
+          (λ u. rw (changed-policy-other g e k arg a (rel .whole-a) i (eqb-false i e t), changed-policy-other g e k arg a (rel .whole-a) j (eqb-false j e u))
           (rel .separate .ways-apart i j hi hj n w)))
 
       nodes : (i j : ℕ) → i < 16 → j < 16 → (i ≡ j → ⊥)
@@ -161,38 +123,38 @@ module _ (g : Geometry) (l : Limited g) (d : ℕ) (low : d < 16) (e : ℕ) (k : 
           cases (eqb i e)
           (λ t. let same : i ≡ e = eqb-true i e t in
           let other : j ≡ e → ⊥ = λ q. n (same ∙ sym q) in
-          rw (same, changed-policy a (rel .whole-a), changed-policy-other a (rel .whole-a) j other)
+          rw (same, changed-policy g e k arg a (rel .whole-a), changed-policy-other g e k arg a (rel .whole-a) j other)
           (new-nodes g l policy (policy-cut W (a .domains)) e arg lets j hj other))
           (λ t. cases (eqb j e)
           (λ u. let same : j ≡ e = eqb-true j e u in
-          rw (same, changed-policy a (rel .whole-a), changed-policy-other a (rel .whole-a) i (eqb-false i e t))
+          rw (same, changed-policy g e k arg a (rel .whole-a), changed-policy-other g e k arg a (rel .whole-a) i (eqb-false i e t))
           (rule g l .shares-sym (policy i .fill) (next .fill) ∙ new-nodes g l policy (policy-cut W (a .domains)) e arg lets i hi (eqb-false i e t)))
-          (λ u. rw (changed-policy-other a (rel .whole-a) i (eqb-false i e t), changed-policy-other a (rel .whole-a) j (eqb-false j e u))
+          (λ u. rw (changed-policy-other g e k arg a (rel .whole-a) i (eqb-false i e t), changed-policy-other g e k arg a (rel .whole-a) j (eqb-false j e u))
           (rel .separate .nodes-apart i j hi hj n)))
 
   -- ---- the relation is kept
 
   pub policy-related : Related g d (changePolicy g e arg a .state) (changePolicy g e arg b .state)
   policy-related = record {
-    whole-a = changed-whole a (rel .whole-a);
-    whole-b = changed-whole b (rel .whole-b);
+    whole-a = changed-whole g e k arg a (rel .whole-a);
+    whole-b = changed-whole g e k arg b (rel .whole-b);
     policy-same = λ f.
         cases (eqb f e)
-        (λ t. rw (eqb-true f e t) (changed-policy a (rel .whole-a) ∙ sym (changed-policy b (rel .whole-b))))
-        (λ t. changed-policy-other a (rel .whole-a) f (eqb-false f e t) ∙ rel .policy-same f ∙ sym (changed-policy-other b (rel .whole-b) f (eqb-false f e t)));
+        (λ t. rw (eqb-true f e t) (changed-policy g e k arg a (rel .whole-a) ∙ sym (changed-policy g e k arg b (rel .whole-b))))
+        (λ t. changed-policy-other g e k arg a (rel .whole-a) f (eqb-false f e t) ∙ rel .policy-same f ∙ sym (changed-policy-other g e k arg b (rel .whole-b) f (eqb-false f e t)));
     separate = separate-after;
     domain-same =
         cases (eqb d e)
         (λ t. subst (λ (i : ℕ). domainOf (changePolicy g e arg a .state .domains) i ≡ domainOf (changePolicy g e arg b .state .domains) i)
         (sym (eqb-true d e t))
-        (changed-domain a (rel .whole-a)
+        (changed-domain g e k arg a (rel .whole-a)
         ∙ ap (newDomain arg) (subst (λ (i : ℕ). domainOf (a .domains) i ≡ domainOf (b .domains) i) (eqb-true d e t) (rel .domain-same))
-        ∙ sym (changed-domain b (rel .whole-b))))
-        (λ t. changed-other a (rel .whole-a) d (eqb-false d e t) ∙ rel .domain-same ∙ sym (changed-other b (rel .whole-b) d (eqb-false d e t)));
+        ∙ sym (changed-domain g e k arg b (rel .whole-b))))
+        (λ t. changed-other g e k arg a (rel .whole-a) d (eqb-false d e t) ∙ rel .domain-same ∙ sym (changed-other g e k arg b (rel .whole-b) d (eqb-false d e t)));
     alike = λ s h.
-        rw (changed-row a (rel .whole-a) s h, changed-row b (rel .whole-b) s h, ← (rel .policy-same e))
+        rw (changed-row g e k arg a (rel .whole-a) s h, changed-row g e k arg b (rel .whole-b) s h, ← (rel .policy-same e))
         (clean-alike g l d low policy (policy-cut W (a .domains)) (rel .separate) e k next
-        (policies (g .ways) (changePolicy g e arg a .state .domains)) (changed-policy a (rel .whole-a)) (changed-policy-other a (rel .whole-a))
+        (policies (g .ways) (changePolicy g e arg a .state .domains)) (changed-policy g e k arg a (rel .whole-a)) (changed-policy-other g e k arg a (rel .whole-a))
         (rowAt (g .ways) s (a .tables)) (rowAt (g .ways) s (b .tables)) (rel .alike s h));
   }
 
@@ -216,6 +178,6 @@ module _ (g : Geometry) (l : Limited g) (d : ℕ) (low : d < 16) (e : ℕ) (k : 
           × (droppedDirty (policy e) next (rowAt (g .ways) s (a .tables)) ≡ droppedDirty (policy e) next (rowAt (g .ways) s (b .tables)))
       drops s h =
           own-drops g l d low policy (policy-cut W (a .domains)) (rel .separate) e k next
-          (policies (g .ways) (changePolicy g e arg a .state .domains)) (changed-policy a (rel .whole-a)) (changed-policy-other a (rel .whole-a))
+          (policies (g .ways) (changePolicy g e arg a .state .domains)) (changed-policy g e k arg a (rel .whole-a)) (changed-policy-other g e k arg a (rel .whole-a))
           (rowAt (g .ways) s (a .tables)) (rowAt (g .ways) s (b .tables)) (rel .alike s h) own gains
           (row-long g (rel .whole-a .shaped) s h) (row-long g (rel .whole-b .shaped) s h)

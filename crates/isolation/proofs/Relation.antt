@@ -16,12 +16,7 @@ use Rattle.geometry.specs.declared.Geometry.{Geometry}
 use Rattle.domains.specs.declared.Domains.{Domains}
 use Rattle.steps.specs.Tables.{Tables, rowAt}
 use Rattle.steps.specs.Step.{State}
-use Rattle.steps.specs.Inside.{Shaped}
-
--- Tables of their lengths and all sixteen domains.
-pub record Whole (g : Geometry) (s : State) : Type 0 where
-  pub shaped : Shaped g (s .tables)
-  pub sixteen : length (s .domains .records) ≡ 16
+use Rattle.steps.specs.Inside.{Whole}
 
 -- No two domains have a way in common, and number 9 lets every two stand.
 pub record Separate (g : Geometry) (policy : ℕ → Maps) : Type 0 where

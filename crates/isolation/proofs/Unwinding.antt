@@ -20,42 +20,17 @@ use Rattle.steps.specs.Step.{State, Outcome, answers, useLine, changePolicy, st
 use Rattle.command.specs.Command.{Command}
 use Rattle.steps.specs.Run.{stepOn}
 use Rattle.steps.specs.Inside.{lineWork}
+use Rattle.steps.proofs.StateLaws.{step-beyond, step-within}
 use Rattle.purge.specs.Purge.{belongs, keeps}
 use Rattle.purge.proofs.KeepLaws.{struck, kept-kind}
 use Rattle.isolation.specs.StruckOut.{numberOf}
-use Rattle.isolation.proofs.Relation.{Whole, Related}
+use Rattle.isolation.proofs.Relation.{Related}
 use Rattle.isolation.proofs.LineUnwinding.{own-line, other-line}
 use Rattle.isolation.proofs.PolicyUnwinding.{policy-related, policy-answer}
 
 module _ (g : Geometry) (limits : within g ≡ true) (d : ℕ) (low : d < 16) where
   l : Limited g
   l = limited g limits
-
-  -- ---- what a step comes to, in a state of which the tables have their lengths
-
-  module _ (c : Command) (s : State) (w : Whole g s) where
-    sized-here : sized g (lengths (s .tables)) ≡ true
-    unfolding sized
-    sized-here =
-        rw (
-          w .shaped .tags-long,
-          w .shaped .valid-long,
-          w .shaped .dirty-long,
-          w .shaped .words-long,
-          eq-eqb (g .sets * g .ways) (g .sets * g .ways) refl,
-          eq-eqb (g .sets) (g .sets) refl,
-        )
-
-    -- a domain of 16 or more is refused by 3
-    step-beyond : 16 ≤ c .domain → stepOn g c s ≡ answers (Refused 3) s
-    unfolding step refusal decided
-    step-beyond h = rw (limits, sized-here, le-leb 16 (c .domain) h)
-
-    -- another's step is decided by its kind
-    step-within : c .domain < 16 → stepOn g c s ≡ decided (refusalBy (kindOf (c .kind)) g (policies (g .ways) (s .domains))
-        (domainOf (s .domains) (c .domain) .counts) (c .domain) (c .argument)) (stepBy (kindOf (c .kind)) g (c .domain) (c .argument) s) s
-    unfolding step refusal
-    step-within h = rw (limits, sized-here, lt-leb 16 (c .domain) h)
 
   -- ---- two outcomes are consistent
 
@@ -102,7 +77,7 @@ module _ (g : Geometry) (limits : within g ≡ true) (d : ℕ) (low : d < 16) wh
 
     own-step : (c : Command) → c .domain ≡ d → Consistent (stepOn g c a) (stepOn g c b)
     own-step c e =
-        rw (step-within c a (rel .whole-a) (rw e low), step-within c b (rel .whole-b) (rw e low), e) (own-by (kindOf (c .kind)) (c .argument))
+        rw (step-within g limits c a (rel .whole-a) (rw e low), step-within g limits c b (rel .whole-b) (rw e low), e) (own-by (kindOf (c .kind)) (c .argument))
 
     -- ---- a kept step of another domain
 
@@ -145,9 +120,9 @@ module _ (g : Geometry) (limits : within g ≡ true) (d : ℕ) (low : d < 16) wh
     kept-step : (c : Command) → 4 ≤ c .kind → Agreed (stepOn g c a) (stepOn g c b)
     kept-step c h =
         cases (leb 16 (c .domain))
-        (λ t. rw (step-beyond c a (rel .whole-a) (leb-true 16 (c .domain) t), step-beyond c b (rel .whole-b) (leb-true 16 (c .domain) t))
+        (λ t. rw (step-beyond g limits c a (rel .whole-a) (leb-true 16 (c .domain) t), step-beyond g limits c b (rel .whole-b) (leb-true 16 (c .domain) t))
         (record { number-same = refl; related = rel }))
-        (λ t. rw (step-within c a (rel .whole-a) (leb-false 16 (c .domain) t), step-within c b (rel .whole-b) (leb-false 16 (c .domain) t))
+        (λ t. rw (step-within g limits c a (rel .whole-a) (leb-false 16 (c .domain) t), step-within g limits c b (rel .whole-b) (leb-false 16 (c .domain) t))
         (other-by (c .kind) (c .domain) (c .argument) h (leb-false 16 (c .domain) t)))
 
     -- ---- a neighbour's access or flush, in one run alone
@@ -170,8 +145,8 @@ module _ (g : Geometry) (limits : within g ≡ true) (d : ℕ) (low : d < 16) wh
     dropped-step : (c : Command) → c .kind < 4 → (c .domain ≡ d → ⊥) → Related g d (stepOn g c a .state) b
     dropped-step c h n =
         cases (leb 16 (c .domain))
-        (λ t. rw (step-beyond c a (rel .whole-a) (leb-true 16 (c .domain) t)) rel)
-        (λ t. rw (step-within c a (rel .whole-a) (leb-false 16 (c .domain) t))
+        (λ t. rw (step-beyond g limits c a (rel .whole-a) (leb-true 16 (c .domain) t)) rel)
+        (λ t. rw (step-within g limits c a (rel .whole-a) (leb-false 16 (c .domain) t))
         (dropped-by (c .kind) (c .domain) (c .argument) h (leb-false 16 (c .domain) t) n))
 
     -- ---- the three unwinding lemmas

@@ -85,10 +85,21 @@ record OtherDrops : Type 0 where
   run : answersOf small shrink (fresh small) ≡ (6 ∷ 0 ∷ 0 ∷ []) ∷ (1 ∷ 2 ∷ []) ∷ (6 ∷ 1 ∷ 1 ∷ []) ∷ []
   purged : answersOf small (purge 0 shrink) (fresh small) ≡ (6 ∷ 0 ∷ 0 ∷ []) ∷ (6 ∷ 0 ∷ 0 ∷ []) ∷ []
 
+-- ---- the verdicts on a neighbour
+
+-- Domain 0 has ways 0 and 2. Domain 1 asks for way 2, which is refused by 8; for ways 1 and 3, whose root is domain 0's too, refused by 9; and for
+-- way 3, which is accepted.
+abbrev asks : List Command
+asks = does 0 16 (both 5) ∷ does 1 16 (both 4) ∷ does 1 16 (both 10) ∷ does 1 16 (both 8) ∷ []
+
+record Verdicts : Type 0 where
+  run : verdicts small 0 asks (fresh small) ≡ 8 ∷ 9 ∷ 0 ∷ []
+  own : verdicts small 1 asks (fresh small) ≡ 0 ∷ []
+
 -- ---- both runs, computed
 
 -- each of these holds by the definitions alone
-computed : NotEmpty × OtherWays × OtherBits × OtherDrops
+computed : NotEmpty × OtherWays × OtherBits × OtherDrops × Verdicts
 unfolding answersTo ownAnswers verdicts numberOf purge keeps answersOf finally step decided stepBy changePolicy newDomain useLine rowEffect onSet
     refusal refusalBy policyRefusal useRefusal sharesNode sharesWay badArgument newMaps kindOf counted isFull policies putDomain domainOf total
     eachSet putRow rowAt sized tagOf setOf within isPower freshTables freshDomains fresh isWays inLimits asRead Lookup.matches Lookup.isHit
@@ -100,6 +111,7 @@ computed = (
   record { run = refl; purged = refl },
   record { run = refl; purged = refl },
   record { run = refl; purged = refl },
+  record { run = refl; own = refl },
 )
 
 not-empty : NotEmpty
@@ -113,3 +125,6 @@ other-bits = computed .2
 
 other-drops : OtherDrops
 other-drops = computed .3
+
+verdicts-differ : Verdicts
+verdicts-differ = computed .4

@@ -1,13 +1,24 @@
 -- Which steps the purge keeps: those of the chosen domain, and those that are no access and no flush; and no others.
 use mathlib.Core.Path.{_≡_}
-use mathlib.Core.Bool.{true, false, not, or-true, true≢false}
+use mathlib.Core.Bool.{true, false, not, true≢false}
 use Prim.Native.Nat.{ℕ, _≤_, _<_}
+use native.Mathlib.Omega.{arith}
 use lib.Dec.{leb, ltb}
 use borrow.Author.Tests.{leb-true, leb-false, lt-ltb, le-ltb, ltb-true, ltb-false, eq-eqb, ne-eqb, not-true, not-false}
 use Rattle.waymap.proofs.Booleans.{cases}
 use Rattle.command.specs.Command.{Command, commandIs}
 use Rattle.command.specs.declared.Command.{Command as Given}
 use Rattle.purge.specs.Purge.{belongs, keeps}
+
+-- what two numbers are like by a test turned round
+high : (n k : ℕ) → k ≤ n → not (ltb n k) ≡ true
+high n k h = rw (le-ltb n k h)
+
+low : (n k : ℕ) → not (ltb n k) ≡ false → n < k
+low n k e = ltb-true n k (not-false (ltb n k) e)
+
+high-again : (n k : ℕ) → not (ltb n k) ≡ true → k ≤ n
+high-again n k e = ltb-false n k (not-true (ltb n k) e)
 
 module _ (d : ℕ) (c : Command) where
   -- every step of the chosen domain is kept
@@ -18,7 +29,7 @@ module _ (d : ℕ) (c : Command) where
   -- every step that is no access and no flush is kept: policy changes, and unknown kinds
   pub keeps-others : 4 ≤ c .kind → keeps d c ≡ true
   unfolding keeps
-  keeps-others h = rw (le-ltb (c .kind) 4 h) (or-true (belongs d c))
+  keeps-others h = cases (belongs d c) (λ t. rw t) (λ t. rw t (high (c .kind) _ (omega arith)))
 
   -- what is struck out belongs to another domain, and is an access or a flush
   pub record Struck : Type 0 where
@@ -29,15 +40,12 @@ module _ (d : ℕ) (c : Command) where
   unfolding keeps
   struck t =
       let other : belongs d c ≡ false = cases (belongs d c) (λ u. absurd (true≢false (rw u at t))) (λ u. u) in
-      let kind : not (ltb (c .kind) 4) ≡ false = rw other at t in
-      record { other = other; kind = ltb-true (c .kind) 4 (not-false (ltb (c .kind) 4) kind) }
+      record { other = other; kind = omega (arith, low (c .kind) _ (rw other at t)) }
 
   -- what another domain's step is that is kept
   pub kept-kind : keeps d c ≡ true → belongs d c ≡ false → 4 ≤ c .kind
   unfolding keeps
-  kept-kind t u =
-      let v : not (ltb (c .kind) 4) ≡ true = rw u at t in
-      ltb-false (c .kind) 4 (not-true (ltb (c .kind) 4) v)
+  kept-kind t u = omega (arith, high-again (c .kind) _ (rw u at t))
 
 -- ---- as the code tests it
 

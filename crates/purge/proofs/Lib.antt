@@ -1,3 +1,4 @@
 -- The laws that the crates above cite.
 pub mod KeepLaws
 pub mod TakeLaws
+pub mod Witness

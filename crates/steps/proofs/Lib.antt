@@ -1,2 +1,5 @@
 -- The laws that the crates above cite.
 pub mod SetLaws
+pub mod StateLaws
+pub mod RunLaws
+pub mod AnswerLaws

@@ -10,6 +10,7 @@ use Rattle.policy.specs.declared.Maps.{Maps}
 use Rattle.geometry.specs.Inside.{Limited}
 use Rattle.geometry.specs.declared.Geometry.{Geometry}
 use Rattle.steps.specs.Tables.{Tables}
+use Rattle.steps.specs.Step.{State}
 
 -- Tables of the right lengths under a geometry within the limits.
 pub record Shaped (g : Geometry) (t : Tables) : Type 0 where
@@ -18,6 +19,11 @@ pub record Shaped (g : Geometry) (t : Tables) : Type 0 where
   pub valid-long : length (t .valid) ≡ g .sets
   pub dirty-long : length (t .dirty) ≡ g .sets
   pub words-long : length (t .words) ≡ g .sets
+
+-- Tables of their lengths and all sixteen domains.
+pub record Whole (g : Geometry) (s : State) : Type 0 where
+  pub shaped : Shaped g (s .tables)
+  pub sixteen : length (s .domains .records) ≡ 16
 
 -- An access or a flush, under a rule.
 abbrev pub lineWork : Bool → Rule → Bool → Maps → ℕ → Row → Effect

@@ -46,7 +46,7 @@ halves q p =
     rw (t, ne-eqb q (2 * p) (λ e. apart (omega arith))) (ne-eqb q (2 * p + 1) (λ e. apart (omega arith))))
 
 -- twice as many of half the size
-doubled : (count r : ℕ) → 2 * count * 2 ^ r ≡ count * 2 ^ suc r
+pub doubled : (count r : ℕ) → 2 * count * 2 ^ r ≡ count * 2 ^ suc r
 doubled count r =
     mul-assoc 2 count (2 ^ r) ∙ mul-comm 2 (count * 2 ^ r) ∙ mul-assoc count (2 ^ r) 2 ∙ ap (λ (t : ℕ). count * t) (sym (pow-suc 2 r))
 

@@ -1,0 +1,139 @@
+-- What the chosen domain sees at the end is what the theorem `isolation` compares.
+use mathlib.Core.Path.{_≡_, refl, sym, ap, ap₂, _∙_}
+use mathlib.Core.Bool.{Bool, true, false, cond, _&&_}
+use mathlib.Core.List.{List, [], _∷_}
+use Prim.Native.Nat.{ℕ, zero, suc, _+_, _*_, _/_, _%_, _^_, _≤_, _<_}
+use native.Mathlib.Omega.{arith}
+use lib.Dec.{eqb, ltb}
+use lib.ListN.{length, getD, take, drop}
+use lib.Seq.{getD-drop, getD-take}
+use borrow.Author.Tests.{eq-eqb, eqb-true, lt-ltb}
+use Rattle.waymap.specs.Bits.{bit}
+use Rattle.waymap.specs.Bits as Bits
+use Rattle.waymap.specs.Ways.{Sized}
+use Rattle.waymap.proofs.Booleans.{cases}
+use Rattle.waymap.proofs.BitLaws.{digit-at}
+use Rattle.replacement.specs.Rule.{ruleOf, bit64}
+use Rattle.replacement.specs.Isolates.{SameOwn}
+use Rattle.row.specs.View.{SameLine}
+use Rattle.policy.specs.Policy.{asRead}
+use Rattle.policy.specs.declared.Maps.{Maps}
+use Rattle.policy.proofs.ReadLaws.{Cut}
+use Rattle.domains.specs.Domains.{domainOf, mapsOf, policies}
+use Rattle.domains.specs.declared.Domain.{Domain}
+use Rattle.geometry.specs.Geometry.{within}
+use Rattle.geometry.specs.declared.Geometry.{Geometry}
+use Rattle.steps.specs.Tables.{Tables, rowAt}
+use Rattle.steps.specs.Step.{State}
+use Rattle.steps.proofs.RunLaws.{Kept}
+use Rattle.isolation.specs.StruckOut.{SameTo}
+use Rattle.isolation.proofs.LineUnwinding.{policy-cut}
+use Rattle.demand.specs.Free.{digit, isFree}
+use Rattle.demand.specs.Demand.{Limits, nobody, domainAt, each, lines, isOwn, bits, There}
+use Rattle.demand.proofs.FreeLaws.{free-is}
+
+-- ---- numbers, lists and bits
+
+each-ext : {A : Type 0} (n : ℕ) (f g : ℕ → A) → ((i : ℕ) → i < n → f i ≡ g i) → each n f ≡ each n g
+unfolding each
+each-ext zero f g e = refl
+each-ext (suc n) f g e = ap₂ _∷_ (e 0 (omega arith)) (each-ext n (λ (i : ℕ). f (suc i)) (λ (i : ℕ). g (suc i)) (λ i h. e (suc i) (omega arith)))
+
+-- a digit is 1 where the bit is set, and bits that are the same are the same digits
+one-bit : (x i : ℕ) → eqb (digit x i) 1 ≡ bit x i
+unfolding digit bit
+one-bit x i = refl
+
+same-digit : (x y i : ℕ) → bit x i ≡ bit y i → digit x i ≡ digit y i
+unfolding digit
+same-digit x y i e = digit-at x i ∙ ap Bits.digit e ∙ sym (digit-at y i)
+
+-- the tag of way w in a set's row stands at place s × W + w
+tag-at : (W s w : ℕ) (t : Tables) → w < W → getD (rowAt W s t .tags) w 0 ≡ getD (t .tags) (s * W + w) 0
+unfolding rowAt
+tag-at W s w t h = getD-take W (drop (s * W) (t .tags)) w 0 h ∙ getD-drop (s * W) (t .tags) w 0
+
+-- ---- own replacement bits
+
+own-digit : (rule W : ℕ) → rule < 2 → Sized W → (fill x y i : ℕ) → i < W → SameOwn (ruleOf rule W) fill x y
+    → cond (eqb rule 1) (eqb (digit fill i) 1) (isFree W fill i) ≡ true → digit x i ≡ digit y i
+unfolding bit64
+own-digit zero W h z fill x y i k same e =
+    let seen = same i (sym (free-is W z fill i) ∙ e) in
+    same-digit x y i (rw (lt-ltb i 64 (omega (arith, z .most))) at seen)
+own-digit (suc zero) W h z fill x y i k same e =
+    let seen = same i (sym (one-bit fill i) ∙ e) in
+    same-digit x y i (rw (lt-ltb i 64 (omega (arith, z .most))) at seen)
+own-digit (suc (suc r)) W h z fill x y i k same e = absurd (omega arith)
+
+-- ---- two ends
+
+module _ (g : Geometry) (limits : within g ≡ true) (d : ℕ) where
+  -- a run's stored maps are as they are read
+  stored : (s : State) → Kept g limits s → policies (g .ways) (s .domains) d ≡ mapsOf (domainAt d s)
+  unfolding policies domainAt domainOf
+  stored s kept = kept .as-stored d
+
+  module _ (a b : State) (kept : Kept g limits a) (same : SameTo g d a b) where
+    pub domain-same : domainAt d a ≡ domainAt d b
+    unfolding domainAt domainOf
+    domain-same = same .domain
+
+    -- one way of one set
+    line-same : (s w : ℕ) → s < g .sets → w < g .ways → eqb (digit (domainAt d a .hit) w) 1 ≡ true
+        → _≡_ {A = List ℕ}
+        (digit (getD (a .tables .valid) s 0) w ∷ digit (getD (a .tables .dirty) s 0) w ∷ getD (a .tables .tags) (s * g .ways + w) 0 ∷ [])
+        (digit (getD (b .tables .valid) s 0) w ∷ digit (getD (b .tables .dirty) s 0) w ∷ getD (b .tables .tags) (s * g .ways + w) 0 ∷ [])
+    unfolding rowAt
+    line-same s w h k e =
+        let mine : bit (policies (g .ways) (a .domains) d .hit) w ≡ true =
+        ap (λ (m : Maps). bit (m .hit) w) (stored a kept) ∙ sym (one-bit (domainAt d a .hit) w) ∙ e in
+        let line = same .sets s h .lines w mine in
+        λ i. same-digit (getD (a .tables .valid) s 0) (getD (b .tables .valid) s 0) w (line .valid) i
+        ∷ same-digit (getD (a .tables .dirty) s 0) (getD (b .tables .dirty) s 0) w (line .dirty) i
+        ∷ (sym (tag-at (g .ways) s w (a .tables) k) ∙ line .tag ∙ tag-at (g .ways) s w (b .tables) k) i ∷ []
+
+    pub lines-same : lines g d a ≡ lines g d b
+    unfolding lines
+    lines-same =
+        rw (← domain-same)
+        (each-ext (g .sets) _ _ (λ s h.
+        each-ext (g .ways) _ _ (λ w k.
+        cases (eqb (digit (domainAt d a .hit) w) 1) (λ t. rw t (line-same s w h k t)) (λ t. rw t))))
+
+    bit-same : Sized (g .ways) → g .rule < 2 → (s i : ℕ) → s < g .sets → i < g .ways → isOwn g (domainAt d a .fill) i ≡ true
+        → digit (getD (a .tables .words) s 0) i ≡ digit (getD (b .tables .words) s 0) i
+    unfolding rowAt isOwn
+    bit-same z r s i h k e =
+        own-digit (g .rule) (g .ways) r z (domainAt d a .fill) (getD (a .tables .words) s 0) (getD (b .tables .words) s 0) i k
+        (rw (stored a kept) at (same .sets s h .own)) e
+
+    pub bits-same : Sized (g .ways) → g .rule < 2 → bits g d a ≡ bits g d b
+    unfolding bits
+    bits-same z r =
+        rw (← domain-same)
+        (each-ext (g .sets) _ _ (λ s h.
+        each-ext (g .ways) _ _ (λ i k.
+        cases (isOwn g (domainAt d a .fill) i) (λ t. rw t (ap (λ (n : ℕ). n ∷ []) (bit-same z r s i h k t))) (λ t. rw t))))
+
+  -- ---- what is compared is there
+
+  pub all-there : (s : State) → Kept g limits s → There g d s
+  all-there s kept = record {
+    tags-long = kept .whole .shaped .tags-long;
+    valid-long = kept .whole .shaped .valid-long;
+    dirty-long = kept .whole .shaped .dirty-long;
+    words-long = kept .whole .shaped .words-long;
+    sixteen = kept .whole .sixteen;
+    hit-there = λ w e. cut .within w (set-at (domainAt d s .hit) w e);
+    fill-there = λ w e. digit-one (domainAt d s .hit) w (cut .part w (set-at (domainAt d s .fill) w e));
+  }
+    where
+      cut : Cut (g .ways) (mapsOf (domainAt d s))
+      cut = rw (stored s kept) at (policy-cut (g .ways) (s .domains) d)
+
+      set-at : (x w : ℕ) → digit x w ≡ 1 → bit x w ≡ true
+      set-at x w e = sym (one-bit x w) ∙ eq-eqb (digit x w) 1 e
+
+      digit-one : (x w : ℕ) → bit x w ≡ true → digit x w ≡ 1
+      digit-one x w e = eqb-true (digit x w) 1 (one-bit x w ∙ e)

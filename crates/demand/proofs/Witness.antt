@@ -1,0 +1,112 @@
+-- What is seen, computed in full for two runs: every part of the statement is in use, and two lists can be told apart.
+use mathlib.Core.Path.{_≡_, refl, sym, ap, _∙_}
+use mathlib.Core.Bool.{xor}
+use mathlib.Core.List.{List, [], _∷_}
+use Prim.Native.Nat.{ℕ, _+_, _*_}
+use native.Mathlib.Omega.{arith}
+use lib.ListN.{length}
+use Rattle.waymap.specs.Bits.{bit, word, any, lowest, count, put, reaches}
+use Rattle.waymap.specs.Ways.{isWays}
+use Rattle.tree.specs.Tree as Tree
+use Rattle.nru.specs.Nru as Nru
+use Rattle.replacement.specs.Calls.{inLimits}
+use Rattle.lookup.specs.Lookup as Lookup
+use Rattle.row.specs.Row as Row
+use Rattle.sweep.specs.Clean as Clean
+use Rattle.policy.specs.Policy.{asRead, newMaps, badArgument}
+use Rattle.command.specs.Command.{Command}
+use Rattle.command.specs.Kind.{kindOf}
+use Rattle.domains.specs.Domains.{domainOf, policies, isFull, putDomain, counted, newDomain}
+use Rattle.verdict.specs.Refusal.{sharesWay, sharesNode, useRefusal, policyRefusal, refusalBy, refusal}
+use Rattle.geometry.specs.Address.{setOf, tagOf}
+use Rattle.geometry.specs.Geometry.{isPower, within, sized}
+use Rattle.geometry.specs.declared.Geometry.{Geometry}
+use Rattle.steps.specs.Tables.{rowAt, putRow, eachSet, total}
+use Rattle.steps.specs.Step.{onSet, rowEffect, useLine, changePolicy, stepBy, decided, step}
+use Rattle.demand.specs.Free.{digit, someIn, freeFrom, isFree}
+use Rattle.demand.specs.Demand.{
+  fresh,
+  events,
+  end,
+  struckOut,
+  ownAnswers,
+  accepted,
+  refused,
+  verdictOf,
+  verdicts,
+  nobody,
+  domainAt,
+  each,
+  lines,
+  isOwn,
+  bits,
+  Seen,
+  seen,
+  seenIn,
+  Indistinguishable,
+}
+
+abbrev does : ℕ → ℕ → ℕ → Command
+does d k a = record { domain = d; kind = k; argument = a }
+
+-- the argument of a policy with both maps m
+abbrev both : ℕ → ℕ
+both m = m + 65536 * m
+
+-- ---- two sets of four ways under Tree-PLRU
+
+abbrev tree : Geometry
+tree = record { sets = 2; ways = 4; rule = 0 }
+
+-- Domain 0 gets ways 0 and 2. Domain 1 asks for way 2, for ways 1 and 3, whose root is domain 0's too, and for way 3. Then both work: domain 0 stores
+-- to line 0, loads lines 2, 1 and 4 and flushes line 4; domain 1 loads and flushes line 0.
+abbrev steps : List Command
+steps =
+    does 0 16 (both 5) ∷ does 1 16 (both 4) ∷ does 1 16 (both 10) ∷ does 1 16 (both 8) ∷ does 0 2 0 ∷ does 1 1 0 ∷ does 0 1 128 ∷ does 0 1 64
+    ∷ does 0 1 256 ∷ does 1 3 0 ∷ does 0 3 256 ∷ []
+
+-- Domain 0 sees its answers, the three verdicts, its record, its ways 0 and 2 of each set, and node 0 of each word.
+abbrev seenByZero : Seen
+seenByZero = record {
+  answers = (6 ∷ 0 ∷ 0 ∷ []) ∷ (1 ∷ 0 ∷ []) ∷ (1 ∷ 2 ∷ []) ∷ (1 ∷ 0 ∷ []) ∷ (2 ∷ 0 ∷ 0 ∷ 1 ∷ []) ∷ (4 ∷ 0 ∷ 0 ∷ []) ∷ [];
+  verdicts = refused 8 ∷ refused 9 ∷ accepted ∷ [];
+  domain = record { hit = 5; fill = 5; counts = record { hits = 0; misses = 4; evicted = 1; written = 1; flushed = 1 } };
+  lines = ((0 ∷ 0 ∷ 2 ∷ []) ∷ [] ∷ (1 ∷ 0 ∷ 1 ∷ []) ∷ [] ∷ []) ∷ ((1 ∷ 0 ∷ 0 ∷ []) ∷ [] ∷ (0 ∷ 0 ∷ 0 ∷ []) ∷ [] ∷ []) ∷ [];
+  bits = ((1 ∷ []) ∷ [] ∷ [] ∷ [] ∷ []) ∷ ((1 ∷ []) ∷ [] ∷ [] ∷ [] ∷ []) ∷ [];
+}
+
+-- ---- one set of two ways under NRU: domain 0 gets way 0 and stores to line 0
+
+abbrev nru : Geometry
+nru = record { sets = 1; ways = 2; rule = 1 }
+
+abbrev brief : List Command
+brief = does 0 16 (both 1) ∷ does 0 2 0 ∷ []
+
+abbrev seenBriefly : Seen
+seenBriefly = record {
+  answers = (6 ∷ 0 ∷ 0 ∷ []) ∷ (1 ∷ 0 ∷ []) ∷ [];
+  verdicts = [];
+  domain = record { hit = 1; fill = 1; counts = record { hits = 0; misses = 1; evicted = 0; written = 0; flushed = 0 } };
+  lines = ((1 ∷ 1 ∷ 0 ∷ []) ∷ [] ∷ []) ∷ [];
+  bits = ((0 ∷ []) ∷ [] ∷ []) ∷ [];
+}
+
+-- ---- computed
+
+pub computed : (seenIn tree 0 steps ≡ seenByZero) × (seenIn nru 0 brief ≡ seenBriefly) × (length (struckOut 0 steps) ≡ 9)
+unfolding seenIn seen bits isOwn lines each domainAt verdicts verdictOf ownAnswers struckOut end events fresh isFree freeFrom someIn digit
+    step decided stepBy changePolicy newDomain useLine rowEffect onSet refusal refusalBy policyRefusal useRefusal sharesNode sharesWay badArgument
+    newMaps kindOf counted isFull policies putDomain domainOf total eachSet putRow rowAt sized tagOf setOf within isPower isWays inLimits asRead
+    Lookup.matches Lookup.isHit Lookup.hitWay Row.hitAt Row.filled Row.vacant Row.fillAt Row.evictAt Row.accessBy Row.access Row.flushAt Row.flush
+    Clean.moved Clean.without Clean.wiped Clean.dropped Clean.droppedDirty Clean.cleaned bit word any lowest count put reaches xor Tree.passes
+    Tree.under Tree.holds Tree.free Tree.forcedRight Tree.walk Tree.walked Tree.victim Tree.touch Tree.changes Tree.reset Tree.shares Nru.victim
+    Nru.before Nru.touch Nru.changes Nru.reset
+computed = (refl, refl, refl)
+
+-- A list can be told from another: here from one without any of the domain's own steps.
+pub told-apart : Indistinguishable tree 0 steps [] → ⊥
+unfolding seenIn seen ownAnswers events
+told-apart same =
+    let six : _≡_ {A = ℕ} 6 0 = ap (λ (s : Seen). length (s .answers)) (sym (computed .0) ∙ same .same) in
+    omega arith

@@ -1,0 +1,80 @@
+-- What a step can answer.
+use mathlib.Core.Path.{_≡_, refl}
+use mathlib.Core.Bool.{Bool, true, false}
+use mathlib.Core.List.{List, [], _∷_}
+use Prim.Native.Nat.{ℕ}
+use native.Mathlib.Omega.{arith}
+use lib.Dec.{eqb}
+use lib.ListN.{length}
+use borrow.Author.Tests.{eqb-false}
+use Rattle.waymap.specs.Bits.{bit, any}
+use Rattle.waymap.proofs.Booleans.{cases}
+use Rattle.replacement.specs.Rule.{Rule}
+use Rattle.row.specs.Row as Row
+use Rattle.row.specs.Row.{Row}
+use Rattle.policy.specs.declared.Maps.{Maps}
+use Rattle.command.specs.Answer.{answerOf}
+use Rattle.command.specs.Command.{Command}
+use Rattle.command.specs.Kind.{Kind, access, flush, policy, unknown, kindOf}
+use Rattle.domains.specs.Domains.{domainOf, policies}
+use Rattle.verdict.specs.Refusal.{refusal}
+use Rattle.geometry.specs.declared.Geometry.{Geometry}
+use Rattle.steps.specs.Tables.{lengths}
+use Rattle.steps.specs.Step.{State, Outcome, onSet, rowEffect, useLine, changePolicy, stepBy, decided, step}
+use Rattle.steps.specs.Run.{stepOn}
+
+-- ---- no refusal has number 0
+
+-- neither an access nor a flush answers a refusal
+module _ (p : Maps) (tag : ℕ) (r : Row) (n : ℕ) where
+  access-done : (R : Rule) (store : Bool) → answerOf (Row.access R p tag store r .answer) ≡ 7 ∷ n ∷ [] → ⊥
+  unfolding Row.access Row.accessBy Row.hitAt Row.fillAt Row.evictAt
+  access-done R store = by (Row.isHit r (p .hit) tag) (any (length (r .tags)) (bit (p .fill))) (any (length (r .tags)) (Row.vacant r (p .fill)))
+    where
+      by : (hit some room : Bool) → answerOf (Row.accessBy hit some room R p tag store r .answer) ≡ 7 ∷ n ∷ [] → ⊥
+      by true some room e = let z : _≡_ {A = ℕ} 0 7 = cc in omega arith
+      by false false room e = let z : _≡_ {A = ℕ} 3 7 = cc in omega arith
+      by false true true e = let z : _≡_ {A = ℕ} 1 7 = cc in omega arith
+      by false true false e = let z : _≡_ {A = ℕ} 2 7 = cc in omega arith
+
+  flush-done : answerOf (Row.flush p tag r .answer) ≡ 7 ∷ n ∷ [] → ⊥
+  unfolding Row.flush Row.flushAt
+  flush-done = by (Row.isHit r (p .hit) tag)
+    where
+      by : (hit : Bool) → answerOf (Row.flushAt hit (Row.hitWay r (p .hit) tag) r .answer) ≡ 7 ∷ n ∷ [] → ⊥
+      by true e = let z : _≡_ {A = ℕ} 4 7 = cc in omega arith
+      by false e = let z : _≡_ {A = ℕ} 5 7 = cc in omega arith
+
+-- of the steps that no verdict turns down only unknown kinds answer a refusal, and that is 4
+done-by : (y : Kind) (g : Geometry) (d arg : ℕ) (s : State) (n : ℕ) → stepBy y g d arg s .answer ≡ 7 ∷ n ∷ [] → n ≡ 4
+unfolding stepBy useLine onSet rowEffect changePolicy
+done-by (access store) g d arg s n e = absurd (access-done _ _ _ n _ store e)
+done-by flush g d arg s n e = absurd (flush-done _ _ _ n e)
+done-by policy g d arg s n e = let z : _≡_ {A = ℕ} 6 7 = cc in absurd (omega arith)
+done-by unknown g d arg s n e = cc
+
+pub no-refusal-zero : (g : Geometry) (c : Command) (s : State) → stepOn g c s .answer ≡ 7 ∷ 0 ∷ [] → ⊥
+unfolding step decided
+no-refusal-zero g c s e =
+    cases (eqb number 0)
+    (λ t. let z = done-by (kindOf (c .kind)) g (c .domain) (c .argument) s 0 (rw t at e) in omega arith)
+    (λ t. let z : number ≡ 0 = cc (rw t at e) in eqb-false number 0 t z)
+  where
+    number : ℕ
+    number =
+        refusal g (lengths (s .tables)) (policies (g .ways) (s .domains)) (domainOf (s .domains) (c .domain) .counts) (c .domain) (c .kind) (c .argument)
+
+-- ---- what a policy change answers
+
+-- `policy` with two numbers, or `refused` with one that is not 0.
+pub data PolicyAnswer : List ℕ → Type 0 where
+  changed : (dropped dirty : ℕ) → PolicyAnswer (6 ∷ dropped ∷ dirty ∷ [])
+  turned-down : (n : ℕ) → (n ≡ 0 → ⊥) → PolicyAnswer (7 ∷ n ∷ [])
+
+pub policy-answer : (g : Geometry) (d arg : ℕ) (s : State) → PolicyAnswer (step g d 16 arg s .answer)
+unfolding step decided kindOf stepBy changePolicy
+policy-answer g d arg s =
+    cases (eqb number 0) (λ t. rw t (changed _ _)) (λ t. rw t (turned-down number (eqb-false number 0 t)))
+  where
+    number : ℕ
+    number = refusal g (lengths (s .tables)) (policies (g .ways) (s .domains)) (domainOf (s .domains) d .counts) d 16 arg

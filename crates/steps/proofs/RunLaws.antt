@@ -1,0 +1,157 @@
+-- What every state of a run from a fresh cache is like.
+use mathlib.Core.Path.{_≡_, refl, sym, ap, subst, _∙_}
+use mathlib.Core.Bool.{Bool, true, false}
+use mathlib.Core.List.{List, [], _∷_}
+use Prim.Native.Nat.{ℕ, _*_, _/_, _<_}
+use native.Mathlib.Nat.{mod-lt}
+use native.Mathlib.Omega.{arith}
+use lib.Dec.{eqb, leb, ltb}
+use lib.ListN.{length, replicate, length-replicate, getD-replicate, List·getD-eq-default}
+use borrow.Author.Tests.{eqb-true, eqb-false, leb-true, leb-false, ltb-true, ltb-false}
+use Rattle.waymap.specs.Bits.{bit, word}
+use Rattle.waymap.proofs.Booleans.{cases}
+use Rattle.replacement.specs.Rule.{ruleOf}
+use Rattle.row.specs.Row.{Effect}
+use Rattle.policy.specs.Policy.{asRead, newMaps}
+use Rattle.policy.specs.declared.Maps.{Maps}
+use Rattle.policy.proofs.ArgumentLaws.{good-maps}
+use Rattle.command.specs.Command.{Command}
+use Rattle.command.specs.Kind.{Kind, access, flush, policy, unknown, kindOf}
+use Rattle.domains.specs.Domains.{noDomain, domainOf, mapsOf, policies, newDomain}
+use Rattle.domains.specs.declared.Domain.{Domain}
+use Rattle.verdict.specs.Refusal.{policyRefusal, refusalBy}
+use Rattle.geometry.specs.Geometry.{within}
+use Rattle.geometry.specs.Address.{setOf, tagOf}
+use Rattle.geometry.specs.Inside.{Limited}
+use Rattle.geometry.specs.declared.Geometry.{Geometry}
+use Rattle.geometry.proofs.GeometryLaws.{limited}
+use Rattle.steps.specs.Tables.{rowAt}
+use Rattle.steps.specs.Step.{State, Outcome, onSet, rowEffect, useLine, changePolicy, stepBy, decided}
+use Rattle.steps.specs.Run.{stepOn, finally}
+use Rattle.steps.specs.Fresh.{freshTables, freshDomains, fresh}
+use Rattle.steps.specs.Inside.{Whole, lineWork}
+use Rattle.steps.proofs.SetLaws.{row-long}
+use Rattle.steps.proofs.StateLaws.{
+  step-beyond,
+  step-within,
+  work-long,
+  line-whole,
+  line-maps,
+  passed,
+  changed-whole,
+  changed-domain,
+  changed-other,
+}
+
+-- ---- a fresh cache
+
+module _ (g : Geometry) (limits : within g ≡ true) where
+  l : Limited g
+  l = limited g limits
+
+  pub fresh-whole : Whole g (fresh g)
+  unfolding fresh freshTables freshDomains
+  fresh-whole = record {
+    shaped = record {
+      limited = l;
+      tags-long = length-replicate (g .sets * g .ways) 0;
+      valid-long = length-replicate (g .sets) 0;
+      dirty-long = length-replicate (g .sets) 0;
+      words-long = length-replicate (g .sets) (ruleOf (g .rule) (g .ways) .fresh);
+    };
+    sixteen = refl;
+  }
+
+  -- no domain has a way
+  pub fresh-domain : (e : ℕ) → domainOf (fresh g .domains) e ≡ noDomain
+  unfolding fresh freshDomains domainOf
+  fresh-domain e =
+      cases (ltb e 16)
+      (λ t. getD-replicate 16 e noDomain noDomain (ltb-true e 16 t))
+      (λ t. List·getD-eq-default (replicate 16 noDomain) noDomain (ltb-false e 16 t))
+
+  -- ---- every state
+
+  -- The tables have their lengths, there are sixteen domains, and every stored policy is as it is read.
+  pub record Kept (s : State) : Type 0 where
+    pub whole : Whole g s
+    pub as-stored : (e : ℕ) → asRead (g .ways) (mapsOf (domainOf (s .domains) e)) ≡ mapsOf (domainOf (s .domains) e)
+
+  -- a stored policy is as it is read, and so is one with the same maps
+  same-maps : (x y : Domain) → mapsOf x ≡ mapsOf y → asRead (g .ways) (mapsOf y) ≡ mapsOf y → asRead (g .ways) (mapsOf x) ≡ mapsOf x
+  same-maps x y e = subst (λ (m : Maps). asRead (g .ways) m ≡ m) (sym e)
+
+  fresh-kept : Kept (fresh g)
+  unfolding asRead word bit
+  fresh-kept = record { whole = fresh-whole; as-stored = λ e. same-maps (domainOf (fresh g .domains) e) noDomain (ap mapsOf (fresh-domain e)) refl }
+
+  module _ (s : State) (kept : Kept s) (e : ℕ) (k : e < 16) (arg : ℕ) where
+    inside : setOf g arg < g .sets
+    unfolding setOf
+    inside = mod-lt (arg / 64) (l .some-set)
+
+    line-kept : (flushes store : Bool) → Kept (useLine g (lineWork flushes (ruleOf (g .rule) (g .ways)) store) e arg s .state)
+    unfolding useLine rowEffect
+    line-kept flushes store = record {
+      whole = line-whole g s (kept .whole) e k (setOf g arg) inside x long;
+      as-stored = λ f.
+          same-maps (domainOf (onSet g e (setOf g arg) x s .state .domains) f) (domainOf (s .domains) f)
+          (line-maps g s (kept .whole) e k (setOf g arg) inside x long f) (kept .as-stored f);
+    }
+      where
+        x : Effect
+        x =
+            lineWork flushes (ruleOf (g .rule) (g .ways)) store (policies (g .ways) (s .domains) e) (tagOf g arg)
+            (rowAt (g .ways) (setOf g arg) (s .tables))
+
+        long : length (x .row .tags) ≡ g .ways
+        long =
+            work-long flushes store (ruleOf (g .rule) (g .ways)) (policies (g .ways) (s .domains) e) (tagOf g arg)
+            (rowAt (g .ways) (setOf g arg) (s .tables))
+            ∙ row-long g (kept .whole .shaped) (setOf g arg) inside
+
+    change-kept : policyRefusal g (policies (g .ways) (s .domains)) e arg ≡ 0 → Kept (changePolicy g e arg s .state)
+    unfolding newDomain
+    change-kept z = record {
+      whole = changed-whole g e k arg s (kept .whole);
+      as-stored = λ f.
+          cases (eqb f e)
+          (λ t. rw (eqb-true f e t) new)
+          (λ t.
+          same-maps (domainOf (changePolicy g e arg s .state .domains) f) (domainOf (s .domains) f)
+          (ap mapsOf (changed-other g e k arg s (kept .whole) f (eqb-false f e t))) (kept .as-stored f));
+    }
+      where
+        new : asRead (g .ways) (mapsOf (domainOf (changePolicy g e arg s .state .domains) e)) ≡ mapsOf (domainOf (changePolicy g e arg s .state .domains) e)
+        new =
+            rw (changed-domain g e k arg s (kept .whole))
+            (good-maps (g .ways) arg (passed g (policies (g .ways) (s .domains)) e arg z .good))
+
+    -- a step that is turned down leaves what was there
+    decided-kept : (n : ℕ) (o : Outcome) → (n ≡ 0 → Kept (o .state)) → Kept (decided n o s .state)
+    unfolding decided
+    decided-kept n o f = cases (eqb n 0) (λ t. rw t (f (eqb-true n 0 t))) (λ t. rw t kept)
+
+    kind-kept : (y : Kind) → Kept (decided (refusalBy y g (policies (g .ways) (s .domains)) (domainOf (s .domains) e .counts) e arg) (stepBy y g e arg s) s .state)
+    unfolding refusalBy stepBy
+    kind-kept (access store) = decided-kept _ _ (λ z. line-kept false store)
+    kind-kept flush = decided-kept _ _ (λ z. line-kept true false)
+    kind-kept policy = decided-kept _ _ change-kept
+    kind-kept unknown = decided-kept 4 _ (λ z. absurd (omega arith))
+
+  step-kept : (c : Command) (s : State) → Kept s → Kept (stepOn g c s .state)
+  step-kept c s kept =
+      cases (leb 16 (c .domain))
+      (λ t. rw (step-beyond g limits c s (kept .whole) (leb-true 16 (c .domain) t)) kept)
+      (λ t.
+      rw (step-within g limits c s (kept .whole) (leb-false 16 (c .domain) t))
+      (kind-kept s kept (c .domain) (leb-false 16 (c .domain) t) (c .argument) (kindOf (c .kind))))
+
+  kept-from : (cs : List Command) (s : State) → Kept s → Kept (finally g cs s)
+  unfolding finally
+  kept-from [] s kept = kept
+  kept-from (c ∷ cs) s kept = kept-from cs (stepOn g c s .state) (step-kept c s kept)
+
+  -- In a run from a fresh cache stored maps need no cutting.
+  pub run-kept : (cs : List Command) → Kept (finally g cs (fresh g))
+  run-kept cs = kept-from cs (fresh g) fresh-kept
