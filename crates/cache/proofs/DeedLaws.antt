@@ -1,12 +1,10 @@
 -- A step of one domain: turned down, or done.
-use mathlib.Core.Path.{_≡_, refl, sym, ap, _∙_}
-use mathlib.Core.Bool.{Bool, true, false}
+use mathlib.Core.Path.{_≡_, sym, ap, _∙_}
+use mathlib.Core.Bool.{false}
 use Prim.Native.Nat.{ℕ}
-use lib.Dec.{eqb}
 use borrow.Author.Tests.{ne-eqb}
-use Rattle.replacement.specs.Rule.{Rule, ruleOf}
 use Rattle.policy.specs.Policy.{asRead, newMaps}
-use Rattle.sweep.specs.Clean.{dropped, droppedDirty, cleaned}
+use Rattle.sweep.specs.Clean.{dropped}
 use Rattle.sweep.specs.Sweep.{sweepOf}
 use Rattle.policy.specs.declared.Maps.{Maps}
 use Rattle.command.specs.declared.Answer.{Answer}
@@ -20,7 +18,7 @@ use Rattle.geometry.specs.declared.Geometry.{Geometry}
 use Rattle.domains.specs.declared.Domain.{Domain}
 use Rattle.domains.specs.declared.Policies.{Policies}
 use Rattle.verdict.proofs.RefusalLaws.{not-full}
-use Rattle.steps.specs.Tables.{Tables, eachSet, total}
+use Rattle.steps.specs.Tables.{Tables}
 use Rattle.steps.specs.Inside.{Shaped}
 use Rattle.cache.specs.Inside.{Work, RowWork, workAt, AllSwept, Deed, deedOf, unless, lineDeed, policyDeed}
 use Rattle.cache.specs.declared.account.Used.{Used}

@@ -1,10 +1,9 @@
 -- Where a set's row lies, and where an address's line can be.
-use mathlib.Core.Path.{_≡_, refl, subst, ap}
-use Prim.Native.Nat.{ℕ, _+_, _*_, _≤_, _<_}
-use native.Mathlib.Nat.{mul-le-mul-right, suc-mul}
+use mathlib.Core.Path.{_≡_, refl, ap}
+use Prim.Native.Nat.{ℕ, _+_, _*_, _<_}
 use Rattle.geometry.specs.Inside.{Limited}
 use Rattle.geometry.specs.declared.Geometry.{Geometry}
-use Rattle.geometry.specs.Address.{setOf, placeOf}
+use Rattle.geometry.specs.Address.{placeOf}
 use Rattle.geometry.proofs.AddressLaws.{set-below}
 use Rattle.steps.proofs.SetLaws.{row-within}
 use Rattle.cache.specs.Inside.{RowOf, PlaceOf}

@@ -1,5 +1,5 @@
 -- A set's row, lent and put back.
-use mathlib.Core.Path.{_≡_, refl, sym, ap, _∙_}
+use mathlib.Core.Path.{_≡_}
 use mathlib.Core.List.{List, _++_}
 use Prim.Native.Nat.{ℕ, _+_, _-_, _*_}
 use native.Mathlib.Omega.{arith}
@@ -8,7 +8,6 @@ use borrow.Rule.Slice.PartMut.{putMid}
 use Rattle.row.specs.Row.{Row, Effect}
 use Rattle.row.specs.Calls.{rowOf, result, told}
 use Rattle.row.specs.declared.Done.{Done}
-use Rattle.row.specs.declared.Lines.{Lines}
 use Rattle.row.proofs.ToldLaws.{told-injective}
 use Rattle.steps.specs.Tables.{rowAt, putRow}
 use Rattle.steps.specs.Step.{tablesOf}

@@ -1,17 +1,17 @@
 -- A step: what it gives, by what its tests find.
 use mathlib.Core.Path.{_≡_, refl, sym, ap, _∙_}
-use mathlib.Core.Bool.{Bool, true, false, cond, _&&_}
+use mathlib.Core.Bool.{true}
 use mathlib.Core.List.{List, [], _∷_}
-use Prim.Native.Nat.{ℕ, zero, suc, _*_, _/_, _<_}
+use Prim.Native.Nat.{ℕ, zero, suc, _/_, _<_}
 use native.Mathlib.Nat.{mod-lt}
 use native.Mathlib.Omega.{arith}
 use lib.Dec.{eqb, ltb}
 use lib.ListN.{length, getD, set}
-use borrow.Author.Tests.{eqb-true, ne-eqb}
+use borrow.Author.Tests.{ne-eqb}
 use denote.Enum.Declared.{tagOf as variantOf}
 use Rattle.waymap.specs.Ways.{isWays}
-use Rattle.waymap.proofs.Booleans.{cases, and-left, and-right}
-use Rattle.replacement.specs.Rule.{Rule, ruleOf}
+use Rattle.waymap.proofs.Booleans.{cases, and-left}
+use Rattle.replacement.specs.Rule.{ruleOf}
 use Rattle.replacement.specs.Calls.{inLimits}
 use Rattle.row.specs.Row.{Row, Effect}
 use Rattle.policy.specs.Policy.{asRead, newMaps}
@@ -20,7 +20,7 @@ use Rattle.row.specs.Calls.{accessOf, flushOf}
 use Rattle.policy.specs.declared.Maps.{Maps}
 use Rattle.command.specs.declared.Answer.{Answer}
 use Rattle.command.specs.declared.Answer.the-variants.{Policy, Refused}
-use Rattle.geometry.specs.Geometry.{within, sized, sizesOf}
+use Rattle.geometry.specs.Geometry.{sizesOf}
 use Rattle.domains.specs.Domains.{noDomain, domainOf, mapsOf, policies, putDomain, newDomain, usedDomain}
 use Rattle.command.specs.Kind.{Kind, kindOf, kindIs, useIs}
 use Rattle.verdict.specs.Refusal.{useRefusal, policyRefusal, refusal}

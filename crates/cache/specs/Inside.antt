@@ -3,12 +3,10 @@ use mathlib.Core.Path.{_≡_}
 use mathlib.Core.Bool.{Bool, true, false, cond}
 use Prim.Native.Nat.{ℕ, _+_, _*_, _≤_, _<_}
 use lib.Dec.{eqb}
-use lib.ListN.{length}
-use Rattle.replacement.specs.Rule.{Rule, ruleOf}
+use Rattle.replacement.specs.Rule.{ruleOf}
 use Rattle.row.specs.Row.{Row, Effect}
 use Rattle.policy.specs.Policy.{asRead, newMaps}
 use Rattle.sweep.specs.Clean.{dropped, droppedDirty, cleaned}
-use Rattle.row.specs.Row as Row
 use Rattle.row.specs.Calls.{accessOf, flushOf}
 use Rattle.sweep.specs.Sweep.{sweepBy, dropsIn}
 use Rattle.sweep.specs.declared.Sweep.{Sweep}
@@ -20,7 +18,6 @@ use Rattle.command.specs.declared.LineUse.the-variants.{Load, Store, Flush}
 use Rattle.domains.specs.Domains.{mapsOf, usedDomain, newDomain}
 use Rattle.verdict.specs.Refusal.{useRefusal}
 use Rattle.verdict.specs.Calls.{policyRefusalOf}
-use Rattle.geometry.specs.Inside.{Limited}
 use Rattle.domains.specs.declared.Domain.{Domain}
 use Rattle.domains.specs.declared.Policies.{Policies}
 use Rattle.geometry.specs.declared.Geometry.{Geometry}

@@ -4,7 +4,7 @@ use mathlib.Core.Bool.{true, false}
 use Prim.Native.Nat.{ℕ, zero, suc}
 use native.Mathlib.Omega.{arith}
 use denote.Enum.Declared.{tagOf}
-use Rattle.command.specs.Kind.{Kind, access, flush, policy, unknown, kindIs, useIs}
+use Rattle.command.specs.Kind.{Kind, access, flush, policy, unknown, kindIs}
 use Rattle.command.specs.declared.Asked.{Asked}
 use Rattle.command.specs.declared.Asked.the-variants.{Line, Policy, Unknown}
 use Rattle.command.specs.declared.LineUse.{LineUse}

@@ -1,11 +1,10 @@
 -- The limits and the fresh cache are the product's own.
-use mathlib.Core.Path.{_≡_, refl, sym, _∙_}
-use mathlib.Core.Bool.{Bool, true, cond, _&&_}
+use mathlib.Core.Path.{_≡_, refl}
+use mathlib.Core.Bool.{true, cond, _&&_}
 use Prim.Native.Nat.{ℕ, zero, suc, _-_, _^_, _≤_, _<_}
-use native.Mathlib.Nat.{pow-le-pow-right, lt-of-le-of-lt}
+use native.Mathlib.Nat.{pow-le-pow-right}
 use native.Mathlib.Omega.{arith}
 use lib.Dec.{eqb, leb, ltb}
-use lib.ListN.{replicate}
 use lib.Pow.{pow-lt}
 use borrow.Author.Tests.{eqb-true, eq-eqb, le-leb, lt-ltb, ltb-true, ltb-false}
 use Rattle.waymap.specs.Bits.{any}
@@ -22,7 +21,7 @@ use Rattle.geometry.specs.Geometry.{isPower, within}
 use Rattle.geometry.specs.declared.Geometry.{Geometry}
 use Rattle.geometry.proofs.GeometryLaws.{limited}
 use Rattle.steps.specs.Fresh as Fresh
-use Rattle.demand.specs.Demand.{Limits, nobody, fresh}
+use Rattle.demand.specs.Demand.{Limits, fresh}
 
 -- ---- the limits, both ways
 

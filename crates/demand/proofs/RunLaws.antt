@@ -1,6 +1,6 @@
 -- Run, struck-out list, answers and verdicts are those of the theorem `isolation`.
-use mathlib.Core.Path.{_≡_, refl, sym, ap, ap₂, subst, _∙_}
-use mathlib.Core.Bool.{Bool, true, false, cond, not, _&&_}
+use mathlib.Core.Path.{_≡_, refl, sym, ap, ap₂, subst}
+use mathlib.Core.Bool.{cond}
 use mathlib.Core.List.{List, [], _∷_, map}
 use Prim.Native.Nat.{ℕ}
 use lib.Dec.{eqb, ltb}
@@ -11,9 +11,9 @@ use Rattle.geometry.specs.declared.Geometry.{Geometry}
 use Rattle.steps.specs.Step.{State, step}
 use Rattle.steps.specs.Run.{stepOn, answersOf, finally}
 use Rattle.steps.proofs.AnswerLaws.{PolicyAnswer, changed, turned-down, policy-answer}
-use Rattle.purge.specs.Purge.{belongs, keeps, purge}
+use Rattle.purge.specs.Purge.{keeps, purge}
 use Rattle.isolation.specs.StruckOut as Iso
-use Rattle.demand.specs.Demand.{Event, events, end, struckOut, ownAnswers, Verdict, accepted, refused, verdictOf, verdicts}
+use Rattle.demand.specs.Demand.{events, end, struckOut, ownAnswers, Verdict, accepted, refused, verdictOf, verdicts}
 
 pub struck-is : (d : ℕ) (cs : List Command) → struckOut d cs ≡ purge d cs
 unfolding struckOut purge keeps

@@ -1,11 +1,11 @@
 -- What the chosen domain sees at the end is what the theorem `isolation` compares.
 use mathlib.Core.Path.{_≡_, refl, sym, ap, ap₂, _∙_}
-use mathlib.Core.Bool.{Bool, true, false, cond, _&&_}
+use mathlib.Core.Bool.{true, cond}
 use mathlib.Core.List.{List, [], _∷_}
-use Prim.Native.Nat.{ℕ, zero, suc, _+_, _*_, _/_, _%_, _^_, _≤_, _<_}
+use Prim.Native.Nat.{ℕ, zero, suc, _+_, _*_, _<_}
 use native.Mathlib.Omega.{arith}
-use lib.Dec.{eqb, ltb}
-use lib.ListN.{length, getD, take, drop}
+use lib.Dec.{eqb}
+use lib.ListN.{getD, drop}
 use lib.Seq.{getD-drop, getD-take}
 use borrow.Author.Tests.{eq-eqb, eqb-true, lt-ltb}
 use Rattle.waymap.specs.Bits.{bit}
@@ -15,12 +15,9 @@ use Rattle.waymap.proofs.Booleans.{cases}
 use Rattle.waymap.proofs.BitLaws.{digit-at}
 use Rattle.replacement.specs.Rule.{ruleOf, bit64}
 use Rattle.replacement.specs.Isolates.{SameOwn}
-use Rattle.row.specs.View.{SameLine}
-use Rattle.policy.specs.Policy.{asRead}
 use Rattle.policy.specs.declared.Maps.{Maps}
 use Rattle.policy.proofs.ReadLaws.{Cut}
 use Rattle.domains.specs.Domains.{domainOf, mapsOf, policies}
-use Rattle.domains.specs.declared.Domain.{Domain}
 use Rattle.geometry.specs.Geometry.{within}
 use Rattle.geometry.specs.declared.Geometry.{Geometry}
 use Rattle.steps.specs.Tables.{Tables, rowAt}
@@ -29,7 +26,7 @@ use Rattle.steps.proofs.RunLaws.{Kept}
 use Rattle.isolation.specs.StruckOut.{SameTo}
 use Rattle.isolation.proofs.LineUnwinding.{policy-cut}
 use Rattle.demand.specs.Free.{digit, isFree}
-use Rattle.demand.specs.Demand.{Limits, nobody, domainAt, each, lines, isOwn, bits, There}
+use Rattle.demand.specs.Demand.{domainAt, each, lines, isOwn, bits, There}
 use Rattle.demand.proofs.FreeLaws.{free-is}
 
 -- ---- numbers, lists and bits

@@ -1,57 +1,14 @@
 -- What is seen, computed in full for two runs: every part of the statement is in use, and two lists can be told apart.
 use mathlib.Core.Path.{_≡_, refl, sym, ap, _∙_}
-use mathlib.Core.Bool.{xor}
 use mathlib.Core.List.{List, [], _∷_}
-use Prim.Native.Nat.{ℕ, _+_, _*_}
+use Prim.Native.Nat.{ℕ}
 use native.Mathlib.Omega.{arith}
 use lib.ListN.{length}
-use Rattle.waymap.specs.Bits.{bit, word, any, lowest, count, put, reaches}
-use Rattle.waymap.specs.Ways.{isWays}
-use Rattle.tree.specs.Tree as Tree
-use Rattle.nru.specs.Nru as Nru
-use Rattle.replacement.specs.Calls.{inLimits}
-use Rattle.lookup.specs.Lookup as Lookup
-use Rattle.row.specs.Row as Row
-use Rattle.sweep.specs.Clean as Clean
-use Rattle.policy.specs.Policy.{asRead, newMaps, badArgument}
 use Rattle.command.specs.Command.{Command}
-use Rattle.command.specs.Kind.{kindOf}
-use Rattle.domains.specs.Domains.{domainOf, policies, isFull, putDomain, counted, newDomain}
-use Rattle.verdict.specs.Refusal.{sharesWay, sharesNode, useRefusal, policyRefusal, refusalBy, refusal}
-use Rattle.geometry.specs.Address.{setOf, tagOf}
-use Rattle.geometry.specs.Geometry.{isPower, within, sized}
 use Rattle.geometry.specs.declared.Geometry.{Geometry}
-use Rattle.steps.specs.Tables.{rowAt, putRow, eachSet, total}
-use Rattle.steps.specs.Step.{onSet, rowEffect, useLine, changePolicy, stepBy, decided, step}
+use Rattle.steps.proofs.Computing.{computing, does, both}
 use Rattle.demand.specs.Free.{digit, someIn, freeFrom, isFree}
-use Rattle.demand.specs.Demand.{
-  fresh,
-  events,
-  end,
-  struckOut,
-  ownAnswers,
-  accepted,
-  refused,
-  verdictOf,
-  verdicts,
-  nobody,
-  domainAt,
-  each,
-  lines,
-  isOwn,
-  bits,
-  Seen,
-  seen,
-  seenIn,
-  Indistinguishable,
-}
-
-abbrev does : ℕ → ℕ → ℕ → Command
-does d k a = record { domain = d; kind = k; argument = a }
-
--- the argument of a policy with both maps m
-abbrev both : ℕ → ℕ
-both m = m + 65536 * m
+use Rattle.demand.specs.Demand.{fresh, events, end, struckOut, ownAnswers, accepted, refused, verdictOf, verdicts, domainAt, each, lines, isOwn, bits, Seen, seen, seenIn, Indistinguishable}
 
 -- ---- two sets of four ways under Tree-PLRU
 
@@ -95,13 +52,7 @@ seenBriefly = record {
 -- ---- computed
 
 pub computed : (seenIn tree 0 steps ≡ seenByZero) × (seenIn nru 0 brief ≡ seenBriefly) × (length (struckOut 0 steps) ≡ 9)
-unfolding seenIn seen bits isOwn lines each domainAt verdicts verdictOf ownAnswers struckOut end events fresh isFree freeFrom someIn digit
-    step decided stepBy changePolicy newDomain useLine rowEffect onSet refusal refusalBy policyRefusal useRefusal sharesNode sharesWay badArgument
-    newMaps kindOf counted isFull policies putDomain domainOf total eachSet putRow rowAt sized tagOf setOf within isPower isWays inLimits asRead
-    Lookup.matches Lookup.isHit Lookup.hitWay Row.hitAt Row.filled Row.vacant Row.fillAt Row.evictAt Row.accessBy Row.access Row.flushAt Row.flush
-    Clean.moved Clean.without Clean.wiped Clean.dropped Clean.droppedDirty Clean.cleaned bit word any lowest count put reaches xor Tree.passes
-    Tree.under Tree.holds Tree.free Tree.forcedRight Tree.walk Tree.walked Tree.victim Tree.touch Tree.changes Tree.reset Tree.shares Nru.victim
-    Nru.before Nru.touch Nru.changes Nru.reset
+unfolding seenIn seen bits isOwn lines each domainAt verdicts verdictOf ownAnswers struckOut end events fresh isFree freeFrom someIn digit computing
 computed = (refl, refl, refl)
 
 -- A list can be told from another: here from one without any of the domain's own steps.

@@ -1,7 +1,7 @@
 -- Document 01, "The struck-out run", for a reader who knows nothing of how the product is built. Used of the product are `step`, the definition
 -- that the contract of the cache's `step` cites, and the records of numbers and lists that a step takes and gives; the rest is written out here.
 use mathlib.Core.Path.{_≡_}
-use mathlib.Core.Bool.{Bool, true, cond, not, _&&_}
+use mathlib.Core.Bool.{Bool, cond, not, _&&_}
 use mathlib.Core.List.{List, [], _∷_}
 use Prim.Native.Nat.{ℕ, zero, suc, _+_, _-_, _*_, _^_, _≤_, _<_}
 use lib.Dec.{eqb, ltb}

@@ -1,22 +1,21 @@
 -- A table filled with one number, and a fresh cache's tables.
-use mathlib.Core.Path.{_≡_, refl, sym, ap, ap₂, _∙_}
-use mathlib.Core.Bool.{Bool, true, false, cond, not}
-use mathlib.Core.List.{List, [], _∷_, _++_, append-nil}
-use Prim.Native.Nat.{ℕ, zero, suc, _+_, _*_, _≤_, _<_}
+use mathlib.Core.Path.{_≡_, refl, ap, _∙_}
+use mathlib.Core.Bool.{true}
+use mathlib.Core.List.{List, _++_, append-nil}
+use Prim.Native.Nat.{ℕ, _+_, _≤_, _<_}
 use native.Mathlib.Omega.{arith}
-use lib.Dec.{leb}
 use lib.ListN.{length, drop, set, replicate, length-set, drop-of-length-le}
 use borrow.Author.Fill.{fill-none, fill-more}
 use Rattle.waymap.proofs.Booleans.{cases}
-use Rattle.replacement.specs.Rule.{Rule, ruleOf}
-use Rattle.replacement.specs.Calls.{Result, result, inLimits, freshOf as freshWord}
+use Rattle.replacement.specs.Rule.{ruleOf}
+use Rattle.replacement.specs.Calls.{Result, result, freshOf as freshWord}
 use Rattle.replacement.specs.declared.Outcome.{Outcome}
 use Rattle.geometry.specs.Geometry.{within, sized, sizesOf}
 use Rattle.geometry.specs.declared.Geometry.{Geometry}
 use Rattle.geometry.proofs.GeometryLaws.{sizes-passed}
 use Rattle.steps.specs.Tables.{Tables, lengths}
 use Rattle.steps.specs.Fresh.{freshTables}
-use Rattle.fresh.specs.Calls.{Made, madeOf, freshOf}
+use Rattle.fresh.specs.Calls.{madeOf, freshOf}
 use Rattle.steps.specs.Step.{tablesOf}
 use Rattle.steps.specs.Inside.{Shaped}
 use Rattle.steps.proofs.SetLaws.{shaped}

@@ -1,6 +1,6 @@
 -- The set and tag of an address.
-use mathlib.Core.Path.{_≡_, refl}
-use Prim.Native.Nat.{ℕ, _/_, _%_, _<_}
+use mathlib.Core.Path.{_≡_}
+use Prim.Native.Nat.{ℕ, _/_, _<_}
 use native.Mathlib.Nat.{mod-lt, mod-zero, div-zero}
 use Rattle.geometry.specs.Address.{setOf, tagOf, placeOf}
 use Rattle.geometry.specs.Inside.{Limited}

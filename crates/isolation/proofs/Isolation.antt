@@ -2,20 +2,18 @@
 use mathlib.Core.Path.{_≡_, refl, ap₂}
 use mathlib.Core.Bool.{true, false, _&&_, and-false}
 use mathlib.Core.List.{List, [], _∷_}
-use Prim.Native.Nat.{ℕ, _*_, _<_}
+use Prim.Native.Nat.{ℕ, _<_}
 use native.Mathlib.Omega.{arith}
 use lib.Dec.{eqb, ltb}
-use lib.ListN.{replicate, length-replicate, getD-replicate, List·getD-eq-default}
-use borrow.Author.Tests.{ne-eqb, ltb-true, ltb-false}
+use borrow.Author.Tests.{ne-eqb}
 use Rattle.waymap.specs.Bits.{bit}
 use Rattle.waymap.proofs.Booleans.{cases}
 use Rattle.waymap.proofs.BitLaws.{bit-none}
 use Rattle.waymap.proofs.WordLaws.{bit-word}
-use Rattle.replacement.specs.Rule.{ruleOf}
 use Rattle.policy.specs.Policy.{asRead}
 use Rattle.row.proofs.LineLaws.{same-line}
 use Rattle.geometry.specs.Geometry.{within}
-use Rattle.domains.specs.Domains.{noDomain, domainOf, policies}
+use Rattle.domains.specs.Domains.{policies}
 use Rattle.geometry.specs.Inside.{Limited}
 use Rattle.geometry.specs.declared.Geometry.{Geometry}
 use Rattle.geometry.proofs.GeometryLaws.{limited}
@@ -23,7 +21,7 @@ use Rattle.steps.specs.Tables.{rowAt}
 use Rattle.steps.specs.Step.{State}
 use Rattle.command.specs.Command.{Command}
 use Rattle.steps.specs.Run.{stepOn, answersOf, finally}
-use Rattle.steps.specs.Fresh.{freshTables, freshDomains, fresh}
+use Rattle.steps.specs.Fresh.{fresh}
 use Rattle.purge.specs.Purge.{belongs, keeps, purge}
 use Rattle.isolation.specs.StruckOut.{answersTo, ownAnswers, verdicts, SameTo, StruckOut}
 use Rattle.steps.proofs.RunLaws.{fresh-whole, fresh-domain}

@@ -1,35 +1,30 @@
 -- The relation on whole states: accesses and flushes.
-use mathlib.Core.Path.{_≡_, refl, sym, ap, ap₂, subst, fun-ext, _∙_}
+use mathlib.Core.Path.{_≡_, sym, ap, ap₂, subst, fun-ext, _∙_}
 use mathlib.Core.Bool.{Bool, true, false}
-use Prim.Native.Nat.{ℕ, _/_, _≤_, _<_}
+use Prim.Native.Nat.{ℕ, _/_, _<_}
 use native.Mathlib.Nat.{mod-lt}
 use lib.Dec.{eqb}
 use lib.ListN.{length}
 use borrow.Author.Tests.{eqb-true, eqb-false}
-use Rattle.waymap.specs.Bits.{bit}
 use Rattle.waymap.proofs.Booleans.{cases}
-use Rattle.replacement.specs.Rule.{Rule, ruleOf}
-use Rattle.row.specs.Row as Row
+use Rattle.replacement.specs.Rule.{ruleOf}
 use Rattle.row.specs.Row.{Row, Effect}
-use Rattle.policy.specs.Policy.{asRead}
 use Rattle.command.specs.Answer.{answerOf}
 use Rattle.policy.specs.declared.Maps.{Maps}
 use Rattle.command.specs.declared.Answer.{Answer}
 use Rattle.policy.proofs.ReadLaws.{Cut, cut-read}
-use Rattle.row.proofs.LineLaws.{access-long, flush-long}
-use Rattle.domains.specs.Domains.{domainOf, policies, putDomain, counted}
+use Rattle.domains.specs.Domains.{domainOf, policies, counted}
 use Rattle.geometry.specs.Inside.{Limited}
 use Rattle.geometry.specs.declared.Geometry.{Geometry}
 use Rattle.domains.specs.declared.Domain.{Domain}
 use Rattle.domains.specs.declared.Domains.{Domains}
 use Rattle.geometry.specs.Address.{setOf, tagOf}
-use Rattle.steps.specs.Tables.{Tables, rowAt, putRow}
-use Rattle.steps.specs.Step.{State, Outcome, onSet, rowEffect, useLine}
-use Rattle.steps.specs.Inside.{Shaped, lineWork}
+use Rattle.steps.specs.Tables.{rowAt}
+use Rattle.steps.specs.Step.{State, onSet, rowEffect, useLine}
+use Rattle.steps.specs.Inside.{lineWork}
 use Rattle.steps.proofs.SetLaws.{row-long}
 use Rattle.steps.proofs.StateLaws.{work-long, line-whole, line-domain, line-domain-other, line-policy, line-row, line-row-other}
-use Rattle.domains.proofs.DomainLaws as DomainLaws
-use Rattle.isolation.proofs.Relation.{Separate, Unheld, Unwritten, Alike, Related}
+use Rattle.isolation.proofs.Relation.{Separate, Alike, Related}
 use Rattle.isolation.proofs.RowUnwinding.{own-access, own-flush, other-access, other-flush}
 
 -- a policy as read is cut

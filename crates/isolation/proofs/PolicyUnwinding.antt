@@ -1,35 +1,30 @@
 -- The relation on whole states: changes of policy.
-use mathlib.Core.Path.{_≡_, refl, sym, ap, ap₂, subst, fun-ext, _∙_}
-use mathlib.Core.Bool.{Bool, true, false, cond, not, _&&_, _||_, and-comm, and-false}
-use Prim.Native.Nat.{ℕ, zero, suc, _+_, _/_, _^_, _≤_, _<_}
-use native.Mathlib.Nat.{suc-ne-zero, lt-of-lt-of-le}
+use mathlib.Core.Path.{_≡_, refl, sym, ap, ap₂, subst, _∙_}
+use mathlib.Core.Bool.{true, false, not, _&&_, and-comm, and-false}
+use Prim.Native.Nat.{ℕ, zero, suc, _<_, _+_}
+use native.Mathlib.Nat.{lt-of-lt-of-le}
 use native.Mathlib.Omega.{arith}
-use lib.Dec.{eqb, ltb}
-use lib.ListN.{length}
-use borrow.Author.Tests.{eqb-true, eqb-false, eq-eqb, ne-eqb, ltb-true, ltb-false, lt-ltb}
-use Rattle.waymap.specs.Bits.{Bits, bit, any, reaches}
-use Rattle.waymap.proofs.Booleans.{cases, not-both, or-none}
+use lib.Dec.{eqb}
+use borrow.Author.Tests.{eqb-true, eqb-false, ne-eqb}
+use Rattle.waymap.specs.Bits.{bit, any}
+use Rattle.waymap.proofs.Booleans.{cases, not-both}
 use Rattle.waymap.proofs.WayLaws.{none-at}
 use Rattle.replacement.specs.Rule.{Rule, ruleOf}
-use Rattle.replacement.specs.Isolates.{Isolates, Apart}
+use Rattle.replacement.specs.Isolates.{Apart}
 use Rattle.row.specs.Row.{Row}
-use Rattle.policy.specs.Policy.{asRead, newMaps, badArgument}
-use Rattle.sweep.specs.Clean.{dropped, droppedDirty, cleaned}
+use Rattle.policy.specs.Policy.{asRead, newMaps}
+use Rattle.sweep.specs.Clean.{dropped, droppedDirty}
 use Rattle.command.specs.Answer.{answerOf}
 use Rattle.policy.specs.declared.Maps.{Maps}
 use Rattle.command.specs.declared.Answer.the-variants.{Policy}
 use Rattle.policy.proofs.ReadLaws.{Cut}
-use Rattle.sweep.proofs.CleanLaws.{clean-long}
-use Rattle.domains.specs.Domains.{domainOf, policies, putDomain, newDomain}
+use Rattle.domains.specs.Domains.{domainOf, policies, newDomain}
 use Rattle.verdict.specs.Refusal.{sharesWay, sharesNode, policyRefusal}
 use Rattle.geometry.specs.Inside.{Limited}
 use Rattle.geometry.specs.declared.Geometry.{Geometry}
-use Rattle.domains.specs.declared.Domain.{Domain}
-use Rattle.domains.specs.declared.Domains.{Domains}
 use Rattle.policy.proofs.ArgumentLaws.{good-maps}
-use Rattle.steps.specs.Tables.{Tables, rowAt, eachSet, total}
-use Rattle.steps.specs.Step.{State, Outcome, changePolicy}
-use Rattle.steps.specs.Inside.{Shaped}
+use Rattle.steps.specs.Tables.{Tables, rowAt, total}
+use Rattle.steps.specs.Step.{State, changePolicy}
 use Rattle.steps.proofs.SetLaws.{row-long}
 use Rattle.steps.proofs.StateLaws.{
   Passed,
@@ -41,8 +36,7 @@ use Rattle.steps.proofs.StateLaws.{
   changed-policy-other,
   changed-row,
 }
-use Rattle.domains.proofs.DomainLaws as DomainLaws
-use Rattle.isolation.proofs.Relation.{Separate, Unheld, Unwritten, Alike, Related}
+use Rattle.isolation.proofs.Relation.{Separate, Unheld, Related}
 use Rattle.isolation.proofs.RowUnwinding.{rule, clean-alike, own-drops}
 use Rattle.isolation.proofs.LineUnwinding.{policy-cut}
 

@@ -1,20 +1,16 @@
 -- The relation between the two runs that every step keeps.
-use mathlib.Core.Path.{_≡_, refl, sym, ap, ap₂, subst, _∙_}
-use mathlib.Core.Bool.{Bool, true, false, cond, not, _&&_, _||_}
-use Prim.Native.Nat.{ℕ, _≤_, _<_}
-use native.Mathlib.Omega.{arith}
-use lib.Dec.{eqb}
-use lib.ListN.{length}
+use mathlib.Core.Path.{_≡_}
+use mathlib.Core.Bool.{false}
+use Prim.Native.Nat.{ℕ, _<_}
 use Rattle.waymap.specs.Bits.{bit}
 use Rattle.replacement.specs.Rule.{Rule, ruleOf}
-use Rattle.replacement.specs.Isolates.{Isolates, SameOwn, Apart}
+use Rattle.replacement.specs.Isolates.{Apart}
 use Rattle.row.specs.Row.{Row}
-use Rattle.row.specs.View.{SameLine, SameView}
+use Rattle.row.specs.View.{SameLine}
 use Rattle.policy.specs.declared.Maps.{Maps}
 use Rattle.domains.specs.Domains.{domainOf, policies}
 use Rattle.geometry.specs.declared.Geometry.{Geometry}
-use Rattle.domains.specs.declared.Domains.{Domains}
-use Rattle.steps.specs.Tables.{Tables, rowAt}
+use Rattle.steps.specs.Tables.{rowAt}
 use Rattle.steps.specs.Step.{State}
 use Rattle.steps.specs.Inside.{Whole}
 

@@ -1,7 +1,7 @@
 -- The relation on one set: what the domain's own steps, its neighbours' and changes of policy make of two rows that are alike.
-use mathlib.Core.Path.{_≡_, refl, sym, ap, ap₂, subst, _∙_}
-use mathlib.Core.Bool.{Bool, true, false, cond, not, _&&_, xor, true≢false, false≢true}
-use Prim.Native.Nat.{ℕ, _≤_, _<_}
+use mathlib.Core.Path.{_≡_, refl, sym, ap, subst, _∙_}
+use mathlib.Core.Bool.{Bool, true, false, xor, true≢false, false≢true}
+use Prim.Native.Nat.{ℕ, _<_}
 use native.Mathlib.Nat.{le-trans}
 use lib.Dec.{eqb, lit≤}
 use lib.ListN.{length}
@@ -9,26 +9,14 @@ use borrow.Author.Tests.{eqb-true, eqb-false}
 use Rattle.waymap.specs.Bits.{bit}
 use Rattle.waymap.proofs.Booleans.{cases, not-both}
 use Rattle.replacement.specs.Rule.{Rule, ruleOf}
-use Rattle.replacement.specs.Isolates.{Isolates, SameOwn, Apart}
+use Rattle.replacement.specs.Isolates.{Isolates, Apart}
 use Rattle.replacement.proofs.RuleLaws.{isolates}
-use Rattle.row.specs.Row.{Row, Effect, access, flush}
+use Rattle.row.specs.Row.{Row, access, flush}
 use Rattle.sweep.specs.Clean.{moved, cleaned, dropped, droppedDirty}
 use Rattle.row.specs.View.{SameLine, SameView}
 use Rattle.policy.specs.declared.Maps.{Maps}
 use Rattle.policy.proofs.ReadLaws.{Cut}
-use Rattle.row.proofs.LineLaws.{
-  line-trans,
-  line-sym,
-  access-leaves,
-  access-stays,
-  access-agrees,
-  access-view,
-  access-answer,
-  flush-leaves,
-  flush-word,
-  flush-agrees,
-  flush-answer,
-}
+use Rattle.row.proofs.LineLaws.{line-trans, access-leaves, access-stays, access-agrees, access-view, access-answer, flush-leaves, flush-word, flush-agrees, flush-answer}
 use Rattle.sweep.proofs.CleanLaws.{clean-gone, clean-agrees, drops-same, dirty-drops-same}
 use Rattle.geometry.specs.Inside.{Limited}
 use Rattle.geometry.specs.declared.Geometry.{Geometry}

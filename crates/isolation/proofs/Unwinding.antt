@@ -1,22 +1,22 @@
 -- The unwinding lemmas of Goguen and Meseguer, for one step: `output-consistent`, `step-consistent` and `locally-respects`.
 use mathlib.Core.Path.{_≡_, refl, sym, fun-ext, _∙_}
 use mathlib.Core.Bool.{true, false}
-use Prim.Native.Nat.{ℕ, _*_, _≤_, _<_}
+use Prim.Native.Nat.{ℕ, _≤_, _<_}
 use native.Mathlib.Omega.{arith}
 use lib.Dec.{eqb, leb, ltb}
-use borrow.Author.Tests.{eqb-true, eqb-false, eq-eqb, ne-eqb, leb-true, leb-false, ltb-false, le-ltb, le-leb, lt-leb}
+use borrow.Author.Tests.{eqb-true, eqb-false, eq-eqb, ne-eqb, leb-true, leb-false, ltb-false, le-ltb}
 use Rattle.waymap.proofs.Booleans.{cases}
 use Rattle.replacement.specs.Rule.{ruleOf}
 use Rattle.command.specs.declared.Answer.the-variants.{Refused}
-use Rattle.geometry.specs.Geometry.{within, sized}
+use Rattle.geometry.specs.Geometry.{within}
 use Rattle.domains.specs.Domains.{domainOf, policies}
 use Rattle.command.specs.Kind.{Kind, access, flush, policy, unknown, kindOf}
-use Rattle.verdict.specs.Refusal.{useRefusal, policyRefusal, refusalBy, refusal}
+use Rattle.verdict.specs.Refusal.{useRefusal, policyRefusal, refusalBy}
 use Rattle.geometry.specs.Inside.{Limited}
 use Rattle.geometry.specs.declared.Geometry.{Geometry}
 use Rattle.geometry.proofs.GeometryLaws.{limited}
 use Rattle.steps.specs.Tables.{lengths}
-use Rattle.steps.specs.Step.{State, Outcome, answers, useLine, changePolicy, stepBy, decided, step}
+use Rattle.steps.specs.Step.{State, Outcome, answers, useLine, changePolicy, stepBy, decided}
 use Rattle.command.specs.Command.{Command}
 use Rattle.steps.specs.Run.{stepOn}
 use Rattle.steps.specs.Inside.{lineWork}

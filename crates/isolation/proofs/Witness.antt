@@ -1,38 +1,19 @@
 -- The theorem is neither empty nor slack: one list of steps, computed in both runs.
 use mathlib.Core.Path.{_≡_, refl}
-use mathlib.Core.Bool.{true, false, xor}
+use mathlib.Core.Bool.{true, false}
 use mathlib.Core.List.{List, [], _∷_}
-use Prim.Native.Nat.{ℕ, _+_, _*_}
 use lib.ListN.{length}
-use Rattle.waymap.specs.Bits.{bit, word, any, lowest, count, put, reaches}
-use Rattle.tree.specs.Tree as Tree
-use Rattle.waymap.specs.Ways.{isWays}
-use Rattle.replacement.specs.Calls.{inLimits}
-use Rattle.row.specs.Row as Row
-use Rattle.sweep.specs.Clean as Clean
-use Rattle.lookup.specs.Lookup as Lookup
-use Rattle.geometry.specs.Geometry.{isPower, within, sized}
-use Rattle.domains.specs.Domains.{domainOf, policies, isFull, putDomain, counted, newDomain}
-use Rattle.command.specs.Kind.{kindOf}
-use Rattle.policy.specs.Policy.{asRead, newMaps, badArgument}
-use Rattle.verdict.specs.Refusal.{sharesWay, sharesNode, useRefusal, policyRefusal, refusalBy, refusal}
+use Rattle.waymap.specs.Bits.{bit, word}
+use Rattle.domains.specs.Domains.{domainOf, policies}
 use Rattle.geometry.specs.declared.Geometry.{Geometry}
-use Rattle.domains.specs.declared.Counts.{Counts}
-use Rattle.geometry.specs.Address.{setOf, tagOf}
-use Rattle.steps.specs.Tables.{rowAt, putRow, eachSet, total}
-use Rattle.steps.specs.Step.{State, onSet, rowEffect, useLine, changePolicy, stepBy, decided, step}
+use Rattle.steps.specs.Tables.{rowAt}
+use Rattle.steps.specs.Step.{State}
 use Rattle.command.specs.Command.{Command}
 use Rattle.steps.specs.Run.{answersOf, finally}
-use Rattle.steps.specs.Fresh.{freshTables, freshDomains, fresh}
+use Rattle.steps.specs.Fresh.{fresh}
 use Rattle.purge.specs.Purge.{keeps, purge}
 use Rattle.isolation.specs.StruckOut.{answersTo, ownAnswers, numberOf, verdicts}
-
-abbrev does : ℕ → ℕ → ℕ → Command
-does d k a = record { domain = d; kind = k; argument = a }
-
--- the argument of a policy with both maps m
-abbrev both : ℕ → ℕ
-both m = m + 65536 * m
+use Rattle.steps.proofs.Computing.{computing, does, both}
 
 -- one set of four ways under Tree-PLRU
 abbrev small : Geometry
@@ -100,12 +81,7 @@ record Verdicts : Type 0 where
 
 -- each of these holds by the definitions alone
 computed : NotEmpty × OtherWays × OtherBits × OtherDrops × Verdicts
-unfolding answersTo ownAnswers verdicts numberOf purge keeps answersOf finally step decided stepBy changePolicy newDomain useLine rowEffect onSet
-    refusal refusalBy policyRefusal useRefusal sharesNode sharesWay badArgument newMaps kindOf counted isFull policies putDomain domainOf total
-    eachSet putRow rowAt sized tagOf setOf within isPower freshTables freshDomains fresh isWays inLimits asRead Lookup.matches Lookup.isHit
-    Lookup.hitWay Row.hitAt Row.filled Row.vacant Row.fillAt Row.evictAt Row.accessBy Row.access Row.flushAt Row.flush Clean.moved Clean.without
-    Clean.wiped Clean.dropped Clean.droppedDirty Clean.cleaned bit word any lowest count put reaches xor Tree.passes Tree.under Tree.holds Tree.free
-    Tree.forcedRight Tree.walk Tree.walked Tree.victim Tree.touch Tree.changes Tree.reset Tree.shares
+unfolding answersTo ownAnswers verdicts numberOf purge keeps computing
 computed = (
   record { dropped = (refl, refl); works = refl; neighbour = refl; neighbour-struck = refl; handed-over = refl },
   record { run = refl; purged = refl },

@@ -1,30 +1,15 @@
 -- Case A of document 01, from the file's bytes to the listing's, by computing.
 use mathlib.Core.Path.{_≡_, refl}
-use mathlib.Core.Bool.{xor}
 use mathlib.Core.List.{List, [], _∷_}
-use Prim.Native.Nat.{ℕ, _+_, _*_}
-use Rattle.waymap.specs.Bits.{bit, word, any, lowest, count, put, reaches}
-use Rattle.tree.specs.Tree as Tree
+use Prim.Native.Nat.{ℕ}
+use Rattle.waymap.specs.Bits.{any}
 use Rattle.waymap.specs.Ways.{isWays}
 use Rattle.replacement.specs.Calls.{inLimits}
-use Rattle.row.specs.Row as Row
-use Rattle.sweep.specs.Clean as Clean
-use Rattle.lookup.specs.Lookup as Lookup
-use Rattle.geometry.specs.Geometry.{isPower, within, sized}
-use Rattle.domains.specs.Domains.{domainOf, policies, isFull, putDomain, counted, newDomain}
-use Rattle.command.specs.Kind.{kindOf}
-use Rattle.policy.specs.Policy.{asRead, newMaps, badArgument}
-use Rattle.verdict.specs.Refusal.{sharesWay, sharesNode, useRefusal, policyRefusal, refusalBy, refusal}
-use Rattle.geometry.specs.declared.Geometry.{Geometry}
-use Rattle.domains.specs.declared.Counts.{Counts}
-use Rattle.geometry.specs.Address.{setOf, tagOf}
-use Rattle.steps.specs.Tables.{rowAt, putRow, eachSet, total}
-use Rattle.steps.specs.Step.{State, onSet, rowEffect, useLine, changePolicy, stepBy, decided, step}
-use Rattle.command.specs.Command.{Command, commandOf}
-use Rattle.steps.specs.Run.{answersOf, finally}
-use Rattle.steps.specs.Fresh.{freshTables, freshDomains, fresh}
+use Rattle.geometry.specs.Geometry.{isPower, within}
+use Rattle.command.specs.Command.{commandOf}
 use Rattle.tracefile.specs.File.{value, field, lastSteps, badFile, fileRefusal}
 use Rattle.listing.specs.Listing.{decimalBy, line, told, answerLines, domainLine, domainPart, domainLines, runLines, listing}
+use Rattle.steps.proofs.Computing.{computing}
 
 -- "1 set, 4 ways, rule 0, 9 steps"
 abbrev fileA : List ℕ
@@ -47,13 +32,7 @@ listingA =
     ∷ 10 ∷ []
 
 pub case-a-listing : listing fileA ≡ listingA
-unfolding answersOf finally step decided stepBy changePolicy newDomain useLine rowEffect onSet refusal refusalBy policyRefusal
-    useRefusal sharesNode sharesWay badArgument newMaps kindOf counted isFull policies putDomain domainOf total eachSet putRow
-    rowAt sized tagOf setOf within isPower freshTables freshDomains fresh isWays inLimits asRead Lookup.matches Lookup.isHit
-    Lookup.hitWay Row.hitAt Row.filled Row.vacant Row.fillAt Row.evictAt Row.accessBy Row.access Row.flushAt Row.flush Clean.moved
-    Clean.without Clean.wiped Clean.dropped Clean.droppedDirty Clean.cleaned bit word any lowest count put reaches xor Tree.passes
-    Tree.under Tree.holds Tree.free Tree.forcedRight Tree.walk Tree.walked Tree.victim Tree.touch Tree.changes Tree.reset Tree.shares commandOf
-    value field lastSteps badFile fileRefusal decimalBy line told answerLines domainLine domainPart domainLines runLines listing
+unfolding commandOf value field lastSteps badFile fileRefusal decimalBy line told answerLines domainLine domainPart domainLines runLines listing computing
 case-a-listing = refl
 
 -- "A file refused by 10 or by 1 gives the one line `refused` and the number": a file of no bytes, and one of 3 sets.
@@ -64,3 +43,9 @@ pub record RefusedFiles : Type 0 where
 pub refused-files : RefusedFiles
 unfolding any within isPower inLimits isWays value field badFile fileRefusal decimalBy line listing
 refused-files = record { empty = refl; three-sets = refl }
+
+-- "`domain`, number and five counts": hits, misses, evicted, written back, flushed, here 1 to 5 of domain 7.
+pub counts-in-order : domainLine 7 (record { hits = 1; misses = 2; evicted = 3; written = 4; flushed = 5 })
+    ≡ 100 ∷ 111 ∷ 109 ∷ 97 ∷ 105 ∷ 110 ∷ 32 ∷ 55 ∷ 32 ∷ 49 ∷ 32 ∷ 50 ∷ 32 ∷ 51 ∷ 32 ∷ 52 ∷ 32 ∷ 53 ∷ 10 ∷ []
+unfolding domainLine line decimalBy
+counts-in-order = refl

@@ -1,5 +1,5 @@
 -- The listing of a trace file, as bytes in ASCII.
-use mathlib.Core.Bool.{Bool, cond}
+use mathlib.Core.Bool.{cond}
 use mathlib.Core.List.{List, [], _∷_, _++_, map}
 use Prim.Native.Nat.{ℕ, zero, suc, _+_, _/_, _%_}
 use lib.Dec.{eqb, ltb}
@@ -13,7 +13,6 @@ use Rattle.domains.specs.declared.Domains.{Domains}
 use Rattle.command.specs.Command.{Command}
 use Rattle.steps.specs.Run.{answersOf, finally}
 use Rattle.steps.specs.Fresh.{fresh}
-use Rattle.steps.specs.Step.{State}
 use Rattle.tracefile.specs.File.{geometryOf, stepCount, stepsOf, fileRefusal}
 
 -- A number "in decimal", of at most k digits.

@@ -1,10 +1,10 @@
 -- NRU, for every number W of ways: the victim lies in the map, and choice and word go by the map's own bits.
-use mathlib.Core.Path.{_≡_, refl, ap, ap₂}
+use mathlib.Core.Path.{_≡_, ap₂}
 use mathlib.Core.Bool.{Bool, true, false, cond, _&&_, _||_, and-false}
 use Prim.Native.Nat.{ℕ, _<_}
 use lib.Dec.{eqb}
 use borrow.Author.Tests.{eqb-true}
-use Rattle.waymap.specs.Bits.{Bits, any, lowest}
+use Rattle.waymap.specs.Bits.{Bits, any}
 use Rattle.waymap.proofs.Booleans.{cases, and-left}
 use Rattle.waymap.proofs.WayLaws.{any-ext, any-found, any-at, lowest-ext, lowest-found}
 use Rattle.nru.specs.Nru.{before, victim, touch}

@@ -1,20 +1,19 @@
 -- NRU on 64-bit words, and why the number of ways does not matter to it.
 use mathlib.Core.Path.{_≡_, refl, sym, ap, ap₂, _∙_}
-use mathlib.Core.Bool.{Bool, true, false, cond, not, _&&_, _||_, xor, and-assoc, and-true, and-false, or-comm}
-use Prim.Native.Nat.{ℕ, _+_, _-_, _*_, _%_, _^_, _≤_, _<_}
-use native.Mathlib.Nat.{lt-of-le-of-lt, lt-of-lt-of-le, le-trans}
+use mathlib.Core.Bool.{Bool, true, false, cond, not, _&&_, _||_, and-true, and-false, or-comm}
+use Prim.Native.Nat.{ℕ, _-_, _%_, _^_, _≤_, _<_}
+use native.Mathlib.Nat.{lt-of-le-of-lt, lt-of-lt-of-le}
 use native.Mathlib.Omega.{arith}
 use lib.Dec.{eqb, ltb, lit≤}
 use lib.Bits.{bitAnd, bitOr, bitXor, and-le-l, or-lt, xor-lt}
-use borrow.Author.Tests.{eqb-true, ne-eqb, ltb-true, ltb-false, lt-ltb, le-ltb}
+use borrow.Author.Tests.{eqb-true, ne-eqb, ltb-true, ltb-false, lt-ltb}
 use Rattle.waymap.specs.Bits.{Bits, bit, word, any, lowest}
 use Rattle.waymap.proofs.Booleans.{cases, cleared, raised}
-use Rattle.waymap.proofs.BitLaws.{bit-none, bit-and, bit-or, bit-xor, bit-not, bit-mod}
-use Rattle.waymap.proofs.WordLaws.{word-lt, word-bit, bit-word, word-ext, from-bits, bit-high}
-use Rattle.waymap.proofs.WayLaws.{any-ext, any-none, any-bits, any-wider, lowest-ext, lowest-wider}
+use Rattle.waymap.proofs.BitLaws.{bit-and, bit-or, bit-xor, bit-not, bit-mod}
+use Rattle.waymap.proofs.WordLaws.{word-lt, bit-word, word-ext, from-bits, bit-high}
+use Rattle.waymap.proofs.WayLaws.{any-ext, any-bits, any-wider, lowest-ext, lowest-wider}
 use Rattle.nru.specs.Nru.{before, victim, touch, changes, reset, fresh}
 use Rattle.nru.specs.Calls.{victimOf, touchOf, changeOf, resetOf, freshOf}
-use Rattle.nru.specs.declared.Choice.{Choice}
 use Rattle.nru.proofs.NruLaws.{ready}
 
 -- ---- the victim

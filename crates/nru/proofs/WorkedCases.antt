@@ -1,6 +1,5 @@
 -- Case I of document 01, for 8 ways, by computing.
 use mathlib.Core.Path.{_≡_, refl}
-use Prim.Native.Nat.{ℕ}
 use Rattle.waymap.specs.Bits.{bit, word, any, lowest}
 use Rattle.nru.specs.Nru.{before, victim, touch}
 

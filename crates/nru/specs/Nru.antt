@@ -1,5 +1,5 @@
 -- NRU, for any number W of ways: "bit w belongs to way w". A row of bits m is a fill map, and a row of bits b a replacement word.
-use mathlib.Core.Bool.{Bool, true, false, cond, not, _&&_, _||_, xor}
+use mathlib.Core.Bool.{true, false, cond, _&&_, _||_, xor}
 use Prim.Native.Nat.{ℕ}
 use lib.Dec.{eqb, ltb}
 use Rattle.waymap.specs.Bits.{Bits, any, lowest}

@@ -1,11 +1,11 @@
 -- Tree-PLRU and NRU keep domains apart: `Isolates` of each.
-use mathlib.Core.Path.{_≡_, refl, sym, ap, ap₂, _∙_}
+use mathlib.Core.Path.{_≡_, refl, sym, ap, _∙_}
 use mathlib.Core.Bool.{Bool, true, false, cond, _&&_, xor, and-comm}
-use Prim.Native.Nat.{ℕ, zero, suc, _-_, _^_, _≤_, _<_}
+use Prim.Native.Nat.{ℕ, zero, suc, _-_, _≤_, _<_}
 use native.Mathlib.Omega.{arith}
 use lib.Dec.{eqb, ltb}
 use borrow.Author.Tests.{ltb-true, lt-ltb}
-use Rattle.waymap.specs.Bits.{Bits, bit, word, any}
+use Rattle.waymap.specs.Bits.{Bits, bit, word}
 use Rattle.waymap.proofs.Booleans.{cases, not-both}
 use Rattle.waymap.proofs.WordLaws.{bit-word}
 use Rattle.waymap.proofs.WayLaws.{none-at, any-ext, any-none}
@@ -13,8 +13,8 @@ use Rattle.tree.specs.Tree as Tree
 use Rattle.tree.proofs.TreeLaws as TreeLaws
 use Rattle.nru.specs.Nru as Nru
 use Rattle.nru.proofs.NruLaws as NruLaws
-use Rattle.replacement.specs.Rule.{Rule, bit64, tree, nru, ruleOf}
-use Rattle.replacement.specs.Isolates.{Isolates, SameOwn, Apart}
+use Rattle.replacement.specs.Rule.{bit64, tree, nru, ruleOf}
+use Rattle.replacement.specs.Isolates.{Isolates, SameOwn}
 
 -- ---- the view of a 64-bit word
 

@@ -4,7 +4,6 @@ use crate::Lines;
 use crate::rules;
 use crate::update;
 use command::Answer;
-use policy::Maps;
 ghost use mathlib.Core.Path.{_≡_};
 ghost use mathlib.Core.Bool.{true};
 ghost use lib.ListN.{length};

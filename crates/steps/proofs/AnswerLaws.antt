@@ -1,5 +1,5 @@
 -- What a step can answer.
-use mathlib.Core.Path.{_≡_, refl}
+use mathlib.Core.Path.{_≡_}
 use mathlib.Core.Bool.{Bool, true, false}
 use mathlib.Core.List.{List, [], _∷_}
 use Prim.Native.Nat.{ℕ}
@@ -20,7 +20,7 @@ use Rattle.domains.specs.Domains.{domainOf, policies}
 use Rattle.verdict.specs.Refusal.{refusal}
 use Rattle.geometry.specs.declared.Geometry.{Geometry}
 use Rattle.steps.specs.Tables.{lengths}
-use Rattle.steps.specs.Step.{State, Outcome, onSet, rowEffect, useLine, changePolicy, stepBy, decided, step}
+use Rattle.steps.specs.Step.{State, onSet, rowEffect, useLine, changePolicy, stepBy, decided, step}
 use Rattle.steps.specs.Run.{stepOn}
 
 -- ---- no refusal has number 0

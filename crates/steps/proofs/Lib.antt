@@ -3,3 +3,4 @@ pub mod SetLaws
 pub mod StateLaws
 pub mod RunLaws
 pub mod AnswerLaws
+pub mod Computing

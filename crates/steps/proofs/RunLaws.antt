@@ -12,7 +12,7 @@ use Rattle.waymap.specs.Bits.{bit, word}
 use Rattle.waymap.proofs.Booleans.{cases}
 use Rattle.replacement.specs.Rule.{ruleOf}
 use Rattle.row.specs.Row.{Effect}
-use Rattle.policy.specs.Policy.{asRead, newMaps}
+use Rattle.policy.specs.Policy.{asRead}
 use Rattle.policy.specs.declared.Maps.{Maps}
 use Rattle.policy.proofs.ArgumentLaws.{good-maps}
 use Rattle.command.specs.Command.{Command}

@@ -1,5 +1,5 @@
 -- What a step comes to, and what it leaves of a state in which the tables have their lengths.
-use mathlib.Core.Path.{_≡_, refl, ap, _∙_}
+use mathlib.Core.Path.{_≡_, refl, ap}
 use mathlib.Core.Bool.{Bool, true, false}
 use Prim.Native.Nat.{ℕ, _*_, _≤_, _<_}
 use native.Mathlib.Nat.{suc-ne-zero}
@@ -19,7 +19,6 @@ use Rattle.command.specs.Command.{Command}
 use Rattle.command.specs.Kind.{kindOf}
 use Rattle.command.specs.declared.Answer.the-variants.{Refused}
 use Rattle.domains.specs.Domains.{domainOf, mapsOf, policies, usedDomain, newDomain}
-use Rattle.domains.specs.declared.Domain.{Domain}
 use Rattle.domains.proofs.DomainLaws as DomainLaws
 use Rattle.verdict.specs.Refusal.{sharesWay, sharesNode, policyRefusal, refusalBy, refusal}
 use Rattle.geometry.specs.Geometry.{within, sized}

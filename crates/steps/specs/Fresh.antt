@@ -1,7 +1,7 @@
 -- A fresh cache: "all zero, except that under NRU the low W bits of each replacement word are one. All policies and counts are zero."
 use Prim.Native.Nat.{_*_}
 use lib.ListN.{replicate}
-use Rattle.replacement.specs.Rule.{Rule, ruleOf}
+use Rattle.replacement.specs.Rule.{ruleOf}
 use Rattle.domains.specs.Domains.{maxDomains, noDomain}
 use Rattle.domains.specs.declared.Domains.{Domains}
 use Rattle.geometry.specs.declared.Geometry.{Geometry}

@@ -1,8 +1,8 @@
 -- The listing of a file on lent tables and into a lent output.
 use mathlib.Core.Path.{_≡_, refl, sym, ap, ap₂, _∙_}
-use mathlib.Core.Bool.{Bool, true, false, cond, not, _||_}
-use mathlib.Core.List.{List, [], _∷_, _++_}
-use Prim.Native.Nat.{ℕ, zero, suc, _+_, _-_, _*_, _≤_, _<_}
+use mathlib.Core.Bool.{true, false}
+use mathlib.Core.List.{List, _++_}
+use Prim.Native.Nat.{ℕ, _+_, _-_, _*_, _≤_}
 use native.Mathlib.Omega.{arith}
 use lib.Dec.{eqb}
 use lib.ListN.{length, take, drop, length-append}
@@ -15,9 +15,7 @@ use Rattle.geometry.specs.Inside.{Limited}
 use Rattle.geometry.specs.declared.Geometry.{Geometry}
 use Rattle.geometry.proofs.GeometryLaws.{limited, rows-bound}
 use Rattle.steps.specs.Tables.{Tables, lengths}
-use Rattle.steps.specs.Step.{State, tablesOf}
-use Rattle.steps.specs.Run.{finally}
-use Rattle.steps.specs.Fresh.{fresh}
+use Rattle.steps.specs.Step.{tablesOf}
 use Rattle.tracefile.proofs.FileLaws.{Accepted, accepted}
 use Rattle.tracefile.specs.File.{geometryOf, stepCount, stepsOf, fileRefusal}
 use Rattle.listing.specs.Listing.{refusedLine, runLines, listing}

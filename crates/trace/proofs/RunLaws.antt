@@ -1,11 +1,11 @@
 -- The run of a file's steps, line after line.
 use mathlib.Core.Path.{_≡_, refl, sym, ap, ap₂, _∙_}
-use mathlib.Core.Bool.{Bool, true}
-use mathlib.Core.List.{List, [], _∷_, _++_}
-use Prim.Native.Nat.{ℕ, zero, suc, _+_, _-_, _*_, _≤_, _<_}
+use mathlib.Core.Bool.{true}
+use mathlib.Core.List.{List, _∷_, _++_}
+use Prim.Native.Nat.{ℕ, suc, _+_, _-_, _*_, _≤_, _<_}
 use native.Mathlib.Omega.{arith}
 use lib.ListN.{length}
-use Rattle.geometry.specs.Geometry.{within, Lengths, sized}
+use Rattle.geometry.specs.Geometry.{within, sized}
 use Rattle.domains.specs.Domains.{maxDomains}
 use Rattle.domains.specs.declared.Domains.{Domains}
 use Rattle.geometry.specs.declared.Geometry.{Geometry}
@@ -17,7 +17,7 @@ use Rattle.steps.specs.Fresh.{freshTables, freshDomains, fresh}
 use Rattle.fresh.specs.Calls.{Made, madeOf, freshOf}
 use Rattle.tracefile.specs.File.{commandAt, lastSteps}
 use Rattle.listing.specs.Listing.{decimal, line, told, answerLines, headLine, domainLines, runLines}
-use Rattle.trace.specs.Inside.{Written, writtenOf, append, RunTo, runTo, ListedBy, listedBy, endOn, ranBy, listingBy}
+use Rattle.trace.specs.Inside.{Written, writtenOf, append, runTo, ListedBy, listedBy, endOn, ranBy, listingBy}
 use Rattle.trace.proofs.TextLaws.{append-append, append-none, piece-long}
 
 -- The first of the steps to come, and then the others.

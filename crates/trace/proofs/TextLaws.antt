@@ -1,6 +1,5 @@
 -- Text put into an output, piece after piece.
 use mathlib.Core.Path.{_≡_, refl, sym, ap, ap₂, _∙_}
-use mathlib.Core.Bool.{Bool, true, false, cond}
 use mathlib.Core.List.{List, [], _∷_, _++_, map, append-assoc, append-nil}
 use Prim.Native.Nat.{ℕ, zero, suc, _+_, _-_, _*_, _/_, _%_, _^_, _≤_, _<_}
 use native.Mathlib.Nat.{add-zero, add-assoc, pow-suc, pow-le-pow-right, not-suc-le-zero, le-of-suc-le-suc, one-le-pow, mod-eq-of-lt}
@@ -9,7 +8,7 @@ use native.Mathlib.Omega.{arith}
 use mir.Syntax.{w64}
 use mir.Val.{Fits}
 use lib.Dec.{ltb}
-use lib.ListN.{length, take, drop, set, getD, length-append, length-drop, length-map, drop-of-length-le, length-set}
+use lib.ListN.{length, drop, set, getD, length-append, length-drop, length-map, drop-of-length-le, length-set}
 use lib.Seq.{sets, length-sets}
 use borrow.Author.Tests.{ltb-true, ltb-false, lt-ltb, le-ltb}
 use Rattle.waymap.proofs.Booleans.{cases}

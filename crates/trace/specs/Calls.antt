@@ -6,7 +6,6 @@ use lib.Dec.{eqb}
 use lib.ListN.{length, drop}
 use Rattle.steps.specs.Run.{finally}
 use Rattle.steps.specs.Fresh.{fresh}
-use Rattle.steps.specs.Step.{State}
 use Rattle.steps.specs.Tables.{Tables}
 use Rattle.tracefile.specs.File.{geometryOf, stepsOf, fileRefusal}
 use Rattle.listing.specs.Listing.{listing}

@@ -1,13 +1,12 @@
 -- The tree, for every number W of ways: which ways stand below a node, the walk, and the masked form.
 use mathlib.Core.Path.{_≡_, refl, sym, ap, ap₂, _∙_}
 use mathlib.Core.Bool.{Bool, true, false, cond, not, _&&_, _||_, or-self, or-true, and-false, and-or-distrib-left, false≢true}
-use Prim.Native.Nat.{ℕ, zero, suc, _+_, _-_, _*_, _/_, _^_, _≤_, _<_}
-use native.Mathlib.Nat.{le-refl}
+use Prim.Native.Nat.{ℕ, zero, suc, _+_, _-_, _*_, _^_, _≤_, _<_}
 use native.Mathlib.Omega.{arith}
-use lib.Dec.{eqb, leb, ltb}
-use lib.Bits.{bitAnd, bitOr}
+use lib.Dec.{eqb, ltb}
+use lib.Bits.{bitAnd}
 use borrow.Author.Tests.{eqb-true, eqb-false, eq-eqb, ne-eqb, ltb-true, ltb-false, lt-ltb, le-ltb}
-use Rattle.waymap.specs.Bits.{Bits, bit, word, any}
+use Rattle.waymap.specs.Bits.{Bits, bit, any}
 use Rattle.waymap.proofs.Booleans.{cases, or-interchange}
 use Rattle.waymap.proofs.BitLaws.{bit-and, bit-or, bit-not}
 use Rattle.waymap.proofs.WordLaws.{word-lt, bit-word}

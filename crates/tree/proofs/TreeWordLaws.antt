@@ -1,15 +1,15 @@
 -- The tree on 64-bit words: what the machine's operations on the words of free and forced nodes make.
-use mathlib.Core.Path.{_≡_, refl, sym, ap, ap₂, _∙_}
-use mathlib.Core.Bool.{Bool, true, false, cond, not, _&&_, _||_, xor, and-true, and-false, or-false, or-true}
-use Prim.Native.Nat.{ℕ, _+_, _-_, _*_, _^_, _≤_, _<_}
+use mathlib.Core.Path.{_≡_, sym, ap, ap₂, _∙_}
+use mathlib.Core.Bool.{Bool, true, false, cond, not, _&&_, and-false}
+use Prim.Native.Nat.{ℕ, _-_, _^_, _≤_, _<_}
 use native.Mathlib.Nat.{lt-of-le-of-lt, lt-of-lt-of-le}
 use native.Mathlib.Omega.{arith}
 use lib.Dec.{eqb, ltb, lit≤}
-use lib.Bits.{bitAnd, bitOr, bitXor, and-le-l, or-lt, xor-lt}
+use lib.Bits.{bitAnd, bitOr, bitXor, and-le-l, xor-lt}
 use borrow.Author.Tests.{ltb-true, lt-ltb}
-use Rattle.waymap.specs.Bits.{Bits, bit, word, any}
+use Rattle.waymap.specs.Bits.{Bits, bit, word}
 use Rattle.waymap.proofs.Booleans.{cases, cleared}
-use Rattle.waymap.proofs.BitLaws.{bit-none, bit-and, bit-or, bit-xor, bit-not}
+use Rattle.waymap.proofs.BitLaws.{bit-and, bit-xor, bit-not}
 use Rattle.waymap.specs.Ways.{takes}
 use Rattle.waymap.proofs.WordLaws.{word-lt, word-ext, bit-word, bit-word-in, from-bits}
 use Rattle.waymap.proofs.WayLaws.{any-ext, any-bits, any-wider}

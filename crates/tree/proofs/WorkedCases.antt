@@ -1,7 +1,6 @@
 -- Cases B, C, D, E and H of document 01, for 8 ways, by computing.
 use mathlib.Core.Path.{_≡_, refl}
-use mathlib.Core.Bool.{Bool, true, false}
-use Prim.Native.Nat.{ℕ}
+use mathlib.Core.Bool.{true, false}
 use Rattle.waymap.specs.Bits.{Bits, bit, word, any}
 use Rattle.tree.specs.Tree.{passes, under, holds, free, forcedRight, walk, walked, victim, touch}
 

@@ -1,14 +1,14 @@
 -- The bits of a number, and of what `&`, `|`, `^`, `!`, shifts and remainders make of it, for every width.
-use mathlib.Core.Path.{_≡_, refl, sym, ap, ap₂, _∙_, subst}
+use mathlib.Core.Path.{_≡_, refl, sym, ap, ap₂, _∙_}
 use mathlib.Core.Bool.{Bool, true, false, not, _&&_, _||_, xor, and-true}
-use Prim.Native.Nat.{ℕ, zero, suc, _+_, _-_, _*_, _/_, _%_, _^_, _≤_, _<_, min, max}
+use Prim.Native.Nat.{ℕ, zero, suc, _+_, _-_, _*_, _/_, _%_, _^_, _<_, min, max}
 use native.Mathlib.Nat.{div-one, zero-div, zero-sub, pow-suc, sub-zero, suc-sub-suc, mul-one}
 use native.Mathlib.Numerals.{one-add}
 use native.Mathlib.Omega.{arith}
 use lib.Dec.{eqb, leb, ltb, leb·zero, leb·suc-zero, leb·suc-suc, eqb·zero-suc, eqb·suc-zero, eqb·suc-suc}
 use lib.Pow.{shr-shr, pow-pos}
 use lib.Bits.{bitAnd, bitOr, bitXor, differ, and-step, or-step, xor-step, and-mask, shifted-even, shifted-half}
-use Rattle.waymap.specs.Bits.{Bits, bit, digit, word}
+use Rattle.waymap.specs.Bits.{bit, digit}
 
 -- ---- a number's lowest bit, and the others as the bits of its half
 

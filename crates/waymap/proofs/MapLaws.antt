@@ -1,14 +1,14 @@
 -- The maps of one way and of the first ways, and maps that reach a number of ways, for every width.
-use mathlib.Core.Path.{_≡_, refl, sym, ap, ap₂, _∙_}
+use mathlib.Core.Path.{_≡_, sym, ap, ap₂, _∙_}
 use mathlib.Core.Bool.{Bool, true, false, cond, not, _&&_, _||_, and-self, and-true, and-false, and-or-distrib-right, false≢true}
-use Prim.Native.Nat.{ℕ, zero, suc, _+_, _-_, _*_, _/_, _%_, _^_, _≤_, _<_}
+use Prim.Native.Nat.{ℕ, zero, suc, _-_, _*_, _/_, _%_, _^_, _≤_, _<_}
 use native.Mathlib.Nat.{pow-suc, one-mul, div-eq-of-lt, div-lt-iff-lt-mul, lt-of-le-of-lt, lt-of-lt-of-le}
 use native.Mathlib.Omega.{arith}
 use lib.Dec.{eqb, leb, ltb}
 use lib.Bits.{bitAnd, bitOr, and-le-l, or-lt}
 use lib.Pow.{pow-pos, pow-lt, shl-exact}
 use borrow.Author.Tests.{eqb-true, eqb-false, ne-eqb, eq-eqb, lt-ltb, ltb-true, ltb-false, le-leb, leb-true}
-use Rattle.waymap.specs.Bits.{Bits, bit, digit, word, any, lowest, put, reaches}
+use Rattle.waymap.specs.Bits.{bit, digit, word, any, lowest, put, reaches}
 use Rattle.waymap.proofs.Booleans.{cases, cleared, raised}
 use Rattle.waymap.proofs.BitLaws.{bit-zero, bit-suc, digit-bit, bit-none, bit-pow, bit-ones, bit-and, bit-or, bit-not}
 use Rattle.waymap.proofs.WordLaws.{word-lt, bit-word-in, from-bits, bit-high, high-none}

@@ -1,6 +1,6 @@
 -- `policy::bad_argument` meets its contract.
 use borrow.Author.Needs.{needs}
-use mathlib.Core.Path.{sym, ap, _∙_}
+use mathlib.Core.Path.{sym, _∙_}
 use Rattle.policy.proofs.ArgumentLaws.{bad-hit, bad-fill, bad-high}
 use Rattle.policy.proofs.bad_argument.Statement.{statement}
 use Rattle.policy.proofs.bad_argument.Tie as tie

@@ -1,7 +1,6 @@
 -- `purger::purge` meets its contract.
 use mathlib.Core.Path.{sym}
 use native.Mathlib.Nat.{le-trans, le-of-eq}
-use borrow.Author.Needs.{needs}
 use Rattle.purger.proofs.purge.Statement.{statement}
 use Rattle.purger.proofs.purge.Tie as tie
 

@@ -1,5 +1,5 @@
 -- `waymap::fits` meets its contract.
-use mathlib.Core.Path.{_≡_, sym, ap}
+use mathlib.Core.Path.{sym, ap}
 use mathlib.Core.Bool.{not}
 use borrow.Author.Needs.{needs}
 use native.Mathlib.Nat.{lt-of-lt-of-le}

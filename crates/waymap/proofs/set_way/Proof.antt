@@ -1,7 +1,5 @@
 -- `waymap::set_way` meets its contract.
-use mathlib.Core.Path.{_∙_, ap, sym}
 use borrow.Author.Needs.{needs}
-use Rattle.waymap.specs.Bits.{put}
 use Rattle.waymap.proofs.MapLaws.{put-in, put-out}
 use Rattle.waymap.proofs.set_way.Statement.{statement}
 use Rattle.waymap.proofs.set_way.Tie as tie

@@ -1,6 +1,5 @@
 -- `cache::sets::use_set` meets its contract.
 use borrow.Author.Needs.{needs}
-use Rattle.geometry.specs.Address.{setOf, tagOf}
 use Rattle.cache.specs.Inside.{workOf, workAt}
 use Rattle.cache.proofs.RowLaws.{row-done}
 use Rattle.cache.proofs.sets.use_set.Statement.{statement}
