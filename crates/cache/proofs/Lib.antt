@@ -4,3 +4,4 @@ pub mod RowLaws
 pub mod SweepLaws
 pub mod StepLaws
 pub mod DeedLaws
+pub mod OutcomeLaws

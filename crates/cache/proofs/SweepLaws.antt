@@ -15,7 +15,8 @@ use Rattle.sweep.proofs.SweepLaws.{sweep-cleans}
 use Rattle.row.specs.Row.{Row, Effect, ways}
 use Rattle.policy.specs.Policy.{asRead}
 use Rattle.sweep.specs.Clean.{dropped, droppedDirty, cleaned, clean}
-use Rattle.sweep.specs.Sweep.{sweepOf, drops, sweepBy, dropsIn, addedTo}
+use Rattle.sweep.specs.Sweep.{sweepOf, drops, sweepBy}
+use Rattle.sweep.specs.Drops.{dropsIn, addedTo}
 use Rattle.sweep.specs.declared.Drops.{Drops}
 use Rattle.sweep.proofs.DropLaws.{added-fits}
 use Rattle.sweep.specs.declared.Sweep.{Sweep}

@@ -8,7 +8,8 @@ use Rattle.row.specs.Row.{Row, Effect}
 use Rattle.policy.specs.Policy.{asRead, newMaps}
 use Rattle.sweep.specs.Clean.{dropped, droppedDirty, cleaned}
 use Rattle.row.specs.Calls.{accessOf, flushOf}
-use Rattle.sweep.specs.Sweep.{sweepBy, dropsIn}
+use Rattle.sweep.specs.Sweep.{sweepBy}
+use Rattle.sweep.specs.Drops.{dropsIn}
 use Rattle.sweep.specs.declared.Sweep.{Sweep}
 use Rattle.policy.specs.declared.Maps.{Maps}
 use Rattle.command.specs.declared.Answer.{Answer}

@@ -2,7 +2,8 @@
 use mathlib.Core.Path.{_≡_, ap₂}
 use Prim.Native.Nat.{ℕ, _+_, _*_, _/_, _%_, _<_}
 use native.Mathlib.Omega.{arith}
-use Rattle.command.specs.Command.{Command, commandOf, codeOf, argumentOf}
+use Rattle.command.specs.declared.Command.{Command as Given}
+use Rattle.command.specs.Command.{commandIs, Command, commandOf, codeOf, argumentOf}
 
 pub code-of-command : (code argument : ℕ) → codeOf (commandOf code argument) ≡ code
 unfolding codeOf commandOf
@@ -14,3 +15,7 @@ command-of-code c h =
     let domain : (c .domain + 256 * c .kind) % 256 ≡ c .domain = omega arith in
     let kind : (c .domain + 256 * c .kind) / 256 ≡ c .kind = omega arith in
     ap₂ (λ (d k : ℕ). record { domain = d; kind = k; argument = c .argument }) domain kind
+
+-- a contract that equates `commandIs` settles the whole step
+pub command-injective : (p q : Given) → commandIs p ≡ commandIs q → p ≡ q
+command-injective p q e = λ i. record { domain = e i .domain; kind = e i .kind; argument = e i .argument }

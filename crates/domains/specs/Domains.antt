@@ -20,9 +20,11 @@ maxDomains = 16
 abbrev pub noCounts : Counts
 noCounts = record { hits = 0; misses = 0; evicted = 0; written = 0; flushed = 0 }
 
+-- A domain without ways and counts.
 abbrev pub noDomain : Domain
 noDomain = record { hit = 0; fill = 0; counts = noCounts }
 
+-- The record of domain d.
 unfoldable pub domainOf : Domains → ℕ → Domain
 domainOf ds d = getD (ds .records) d noDomain
 

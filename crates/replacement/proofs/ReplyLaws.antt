@@ -1,10 +1,11 @@
 -- Document 01's numbers and values tell any two answers apart.
-use mathlib.Core.Path.{_≡_, refl}
+use mathlib.Core.Path.{_≡_, refl, ap}
 use mathlib.Core.Bool.{cond}
 use mathlib.Core.List.{List, [], _∷_}
 use Prim.Native.Nat.{ℕ}
 use lib.Dec.{eqb}
-use Rattle.replacement.specs.Calls.{answerOf}
+use Rattle.replacement.specs.Calls.{answerOf, Result, result}
+use Rattle.replacement.specs.declared.Outcome.{Outcome}
 use Rattle.replacement.specs.declared.Reply.{Reply}
 use Rattle.replacement.specs.declared.Reply.the-variants.{Way, Done, OutsideLimits, OutOfReach, SharedNode}
 
@@ -25,3 +26,8 @@ reply-again SharedNode = refl
 -- So a contract that equates numbers and values settles the whole answer.
 pub reply-injective : (p q : Reply) → answerOf p ≡ answerOf q → p ≡ q
 reply-injective p q e = rw (← (reply-again p), ← (reply-again q), e)
+
+pub result-injective : (p q : Outcome) → result p ≡ result q → p ≡ q
+result-injective p q e =
+    let same = reply-injective (p .reply) (q .reply) (ap (λ (r : Result). r .answer) e) in
+    λ i. record { reply = same i; word = e i .word }

@@ -8,6 +8,7 @@ use Rattle.geometry.specs.declared.Geometry.{Geometry}
 use Rattle.steps.specs.Tables.{Tables}
 use Rattle.steps.specs.Step.{State}
 
+-- The tables: all zero, and in each word what the rule has a fresh word be.
 unfoldable pub freshTables : Geometry → Tables
 freshTables g = record {
   tags = replicate (g .sets * g .ways) 0;
@@ -16,8 +17,10 @@ freshTables g = record {
   words = replicate (g .sets) (ruleOf (g .rule) (g .ways) .fresh);
 }
 
+-- The domains: sixteen without ways and counts.
 unfoldable pub freshDomains : Domains
 freshDomains = record { records = replicate maxDomains noDomain }
 
+-- Both together: what a run starts from.
 unfoldable pub fresh : Geometry → State
 fresh g = record { tables = freshTables g; domains = freshDomains }

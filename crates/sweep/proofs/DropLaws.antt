@@ -10,7 +10,7 @@ use denote.Enum.Declared.{tagOf}
 use Rattle.command.specs.declared.Answer.{Answer}
 use Rattle.command.specs.declared.Answer.the-variants.{Hit, Fill, Evict, Pass, Flush, Absent, Policy, Refused}
 use Rattle.command.proofs.Answer.{the-type}
-use Rattle.sweep.specs.Sweep.{dropsIn, addedTo}
+use Rattle.sweep.specs.Drops.{dropsIn, addedTo}
 use Rattle.sweep.specs.declared.Drops.{Drops}
 
 not-six : (n : ℕ) → n ≡ 6 → (n ≡ 0) ⊎ ((n ≡ 1) ⊎ ((n ≡ 2) ⊎ ((n ≡ 3) ⊎ ((n ≡ 4) ⊎ ((n ≡ 5) ⊎ (n ≡ 7)))))) → ⊥

@@ -1,7 +1,7 @@
 -- A change of policy, worked out from the maps once and then done to any number of sets. Law `sweep-cleans`: on a set of W ways it is
 -- `clean`.
 use mathlib.Core.Bool.{_&&_}
-use Prim.Native.Nat.{ℕ, _+_, _%_, _^_}
+use Prim.Native.Nat.{ℕ}
 use Rattle.waymap.specs.Bits.{bit, word, count}
 use Rattle.replacement.specs.Change.{changeOf, changeBy}
 use Rattle.replacement.specs.declared.Change.{Change}
@@ -12,9 +12,8 @@ use Rattle.row.specs.Calls.{rowOf}
 use Rattle.policy.specs.declared.Maps.{Maps}
 use Rattle.row.specs.declared.Lines.{Lines}
 use Rattle.sweep.specs.declared.Sweep.{Sweep}
-use Rattle.sweep.specs.declared.Drops.{Drops}
 use Rattle.command.specs.declared.Answer.{Answer}
-use Rattle.command.specs.declared.Answer.the-variants.{Hit, Fill, Evict, Pass, Flush, Absent, Policy, Refused}
+use Rattle.command.specs.declared.Answer.the-variants.{Policy}
 
 -- The ways that are cleaned, and the change of fill map.
 unfoldable pub sweepOf : ℕ → ℕ → Maps → Maps → Sweep
@@ -42,20 +41,3 @@ sweepBy s r =
     let gone = asRead (ways r) (record { hit = s .gone; fill = 0 }) .hit in
     let l : Lines = record { valid = r .valid; dirty = r .dirty; word = r .word } in
     record { answer = drops gone l; row = rowOf (wiped (bit gone) (r .tags)) (sweptLines gone (s .change) l) }
-
--- ---- the drops of one set after another
-
--- The drops that an answer tells of.
-abbrev pub dropsIn : Answer → Drops
-dropsIn (Policy n d) = record { dropped = n; dirty = d }
-dropsIn (Hit w) = record { dropped = 0; dirty = 0 }
-dropsIn (Fill w) = record { dropped = 0; dirty = 0 }
-dropsIn (Evict w tag dirty) = record { dropped = 0; dirty = 0 }
-dropsIn Pass = record { dropped = 0; dirty = 0 }
-dropsIn (Flush w dirty) = record { dropped = 0; dirty = 0 }
-dropsIn Absent = record { dropped = 0; dirty = 0 }
-dropsIn (Refused n) = record { dropped = 0; dirty = 0 }
-
--- The drops so far with those of one set more, in 64 bits.
-unfoldable pub addedTo : Drops → Answer → Drops
-addedTo d a = record { dropped = (d .dropped + dropsIn a .dropped) % 2 ^ 64; dirty = (d .dirty + dropsIn a .dirty) % 2 ^ 64 }

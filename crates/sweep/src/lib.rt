@@ -9,7 +9,8 @@ use row::Done;
 use row::Lines;
 ghost use mathlib.Core.Path.{_≡_};
 ghost use Rattle.row.specs.Calls.{rowOf, result, told};
-ghost use Rattle.sweep.specs.Sweep.{sweepOf, sweepBy, dropsIn, addedTo};
+ghost use Rattle.sweep.specs.Sweep.{sweepOf, sweepBy};
+ghost use Rattle.sweep.specs.Drops.{dropsIn, addedTo};
 
 // What a change of policy does to every set alike: the ways that are cleaned, and what becomes of the replacement word.
 pub struct Sweep {

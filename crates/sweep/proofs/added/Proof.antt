@@ -1,5 +1,5 @@
 -- `sweep::added` meets its contract.
-use Rattle.sweep.specs.Sweep.{addedTo}
+use Rattle.sweep.specs.Drops.{addedTo}
 use borrow.Author.Needs.{needs}
 use Rattle.sweep.proofs.added.Statement.{statement}
 use Rattle.sweep.proofs.added.Tie as tie

@@ -1,0 +1,12 @@
+-- The contract of `step` settles its whole answer.
+use mathlib.Core.Path.{_≡_, ap}
+use Rattle.command.proofs.AnswerLaws.{answer-injective}
+use Rattle.steps.specs.Tables.{Tables}
+use Rattle.steps.specs.Step.{Outcome}
+use Rattle.cache.specs.Calls.{outcome}
+use Rattle.cache.specs.declared.Stepped.{Stepped}
+
+pub outcome-injective : (r s : Stepped) (t u : Tables) → outcome r t ≡ outcome s u → (r ≡ s) × (t ≡ u)
+outcome-injective r s t u e =
+    let same = answer-injective (r .answer) (s .answer) (ap (λ (o : Outcome). o .answer) e) in
+    ((λ i. record { answer = same i; domains = e i .state .domains }), ap (λ (o : Outcome). o .state .tables) e)
