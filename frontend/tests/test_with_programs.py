@@ -28,6 +28,15 @@ def busy_trace(source: random.Random, count: int) -> Trace:
     return Trace(source.choice((1, 2, 4, 256)), ways, source.choice((0, 1)), tuple(steps))
 
 
+def said(data: bytes, name: str, *arguments: str) -> bytes:
+    """Write all data to a program's standard input, then give what it writes; a pipe that breaks is an error."""
+    command = (programs.BIN / name, *arguments)
+    with subprocess.Popen(command, stdin=subprocess.PIPE, stdout=subprocess.PIPE) as job:
+        with job.stdin:
+            job.stdin.write(data)
+        return job.stdout.read()
+
+
 @needs_programs
 class CaseA(unittest.TestCase):
     """Document 01's cases that a program shows."""
@@ -58,6 +67,26 @@ class CaseA(unittest.TestCase):
         ):
             status, out, _ = call("list", stdin=tracefile.encode(trace))
             self.assertEqual((status, out[: len(first)]), (0, first))
+
+
+@needs_programs
+class Longest(unittest.TestCase):
+    """Standard input of as many bytes as the longest trace file has, and of more."""
+
+    FILE = tracefile.encode(Trace(1, 2, 0, (Step(0, 0, 0),) * 4096))
+
+    def test_longest_file_stands(self):
+        self.assertEqual(len(self.FILE), 40_968)
+        listed = listing.parse(said(self.FILE, "lister"))
+        self.assertEqual((listed.refused, len(listed.answers)), (None, 4096))
+
+    def test_one_byte_more(self):
+        self.assertEqual(said(self.FILE + b"\0", "lister"), b"refused 10\n")
+
+    def test_the_rest_is_read_too(self):
+        data = self.FILE + bytes(200_000)
+        self.assertEqual(said(data, "lister"), b"refused 10\n")
+        self.assertEqual((said(data, "purger", "0"), said(data, "stepper")), (b"", b""))
 
 
 @needs_programs

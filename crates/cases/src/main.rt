@@ -1,5 +1,5 @@
-// Cases A, J, K and L of document 01, listed by the public call. Cases B to I are shown of the rules themselves, in proofs/Worked.antt.
-use libc::STDIN_FILENO;
+// Cases A, J, K and L of document 01, and the file on standard input, which is one byte longer than the longest, listed by the public
+// call. Cases B to I are shown of the rules themselves, in proofs/Worked.antt.
 use libc::STDOUT_FILENO;
 ghost use Rattle.io.specs.Counts.{Counts};
 
@@ -45,11 +45,16 @@ fn show(file: &[u8], whole: bool) {
     put(&out[..length], whole);
 }
 
-// "1 set, 4 ways, rule 0, 9 steps": the file on standard input.
+// "1 set, 4 ways, rule 0, 9 steps": eight bytes of header, nine codes of two bytes, nine arguments of eight.
 fn case_a() {
-    let mut file = [0u8; 98];
-    let count = io::read_full(STDIN_FILENO, &mut file);
-    show(&file[..count], true);
+    show(
+        b"\x01\0\x04\0\x09\0\0\0\
+          \0\x10\x01\x10\0\x02\0\x01\x01\x01\0\x01\0\x03\x02\x01\0\x01\
+          \x03\0\x03\0\0\0\0\0\x0c\0\x0c\0\0\0\0\0\0\0\0\0\0\0\0\0\
+          \x40\0\0\0\0\0\0\0\0\0\0\0\0\0\0\0\x80\0\0\0\0\0\0\0\
+          \x40\0\0\0\0\0\0\0\0\0\0\0\0\0\0\0\x80\0\0\0\0\0\0\0",
+        true,
+    );
 }
 
 // "S = 256 stands, 257 and 512 are refused 1"
@@ -107,6 +112,13 @@ fn case_l() {
     show(&file, false);
 }
 
+// A file of 4,096 steps, and one byte more.
+fn longer() {
+    let mut file = [0u8; 40969];
+    let count = input::read_file(&mut file);
+    show(&file[..count], true);
+}
+
 fn main() {
     io::write_all(STDOUT_FILENO, b"case A\n");
     case_a();
@@ -116,4 +128,6 @@ fn main() {
     case_k();
     io::write_all(STDOUT_FILENO, b"case L\n");
     case_l();
+    io::write_all(STDOUT_FILENO, b"one byte more than the longest\n");
+    longer();
 }

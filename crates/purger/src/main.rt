@@ -1,7 +1,6 @@
 // Writes the steps that are left of the trace file on standard input when the purge of a domain strikes out the others' accesses and
 // flushes: a line for each step, with its domain, kind and argument. The domain is the first argument. A file that is refused by 10, and
 // an argument that is no number below 16, give nothing.
-use libc::STDIN_FILENO;
 use libc::STDOUT_FILENO;
 ghost use Prim.Native.Nat.{_≤_};
 ghost use lib.ListN.{length};
@@ -135,7 +134,7 @@ fn main() {
         return;
     }
     let mut file = [0u8; 40969];
-    let count = io::read_full(STDIN_FILENO, &mut file);
+    let count = input::read_file(&mut file);
     if tracefile::refusal(&file[..count]) == 10 {
         return;
     }

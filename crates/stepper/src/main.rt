@@ -5,7 +5,6 @@
 // none. A refused file gives nothing.
 use domains::Domains;
 use geometry::Geometry;
-use libc::STDIN_FILENO;
 use libc::STDOUT_FILENO;
 ghost use mathlib.Core.Path.{_≡_};
 ghost use Prim.Native.Nat.{_+_, _*_, _≤_, _<_};
@@ -314,6 +313,6 @@ fn show_file(file: &[u8]) {
 
 fn main() {
     let mut file = [0u8; 40969];
-    let count = io::read_full(STDIN_FILENO, &mut file);
+    let count = input::read_file(&mut file);
     show_file(&file[..count]);
 }

@@ -1,7 +1,7 @@
--- `lister::read_out` meets its contract.
+-- `input::read_out` meets its contract.
 use native.Mathlib.Omega.{arith}
-use Rattle.lister.proofs.read_out.Statement.{statement}
-use Rattle.lister.proofs.read_out.Tie as tie
+use Rattle.input.proofs.read_out.Statement.{statement}
+use Rattle.input.proofs.read_out.Tie as tie
 
 abbrev Inv-loop : tie.InvT-loop
 Inv-loop turns₀ turns = Unit {0}

@@ -1,0 +1,510 @@
+-- Cases on lent states. They are ours and not document 01's: a step on tables, policies and counts as they are written here, with the
+-- answer and the state after it, both worked out by hand from document 01. Where a sentence of it says what a case shows, the comment
+-- quotes it. The whole state is compared, so that a case also says what does not move.
+use mathlib.Core.List.{List, [], _∷_, _++_}
+use Prim.Native.Nat.{ℕ, _+_, _-_, _*_}
+use lib.ListN.{length, replicate}
+use Rattle.command.specs.Command.{Command}
+use Rattle.geometry.specs.declared.Geometry.{Geometry}
+use Rattle.domains.specs.Domains.{noDomain}
+use Rattle.domains.specs.declared.Domain.{Domain}
+use Rattle.steps.specs.Step.{State, Outcome, tablesOf}
+use Rattle.steps.specs.Run.{stepOn}
+use Rattle.steps.specs.Fresh.{fresh}
+use Rattle.cases.specs.Case.{Case}
+
+-- ---- Caches, steps and answers
+
+-- S sets of W ways, under Tree-PLRU and under NRU.
+abbrev plru : ℕ → ℕ → Geometry
+plru S W = record { sets = S; ways = W; rule = 0 }
+
+abbrev nru : ℕ → ℕ → Geometry
+nru S W = record { sets = S; ways = W; rule = 1 }
+
+-- A domain fetches, loads, stores or flushes at an address, or takes a hit map and a fill map.
+abbrev fetches : ℕ → ℕ → Command
+fetches d address = record { domain = d; kind = 0; argument = address }
+
+abbrev loads : ℕ → ℕ → Command
+loads d address = record { domain = d; kind = 1; argument = address }
+
+abbrev stores : ℕ → ℕ → Command
+stores d address = record { domain = d; kind = 2; argument = address }
+
+abbrev flushes : ℕ → ℕ → Command
+flushes d address = record { domain = d; kind = 3; argument = address }
+
+abbrev takes : ℕ → ℕ → ℕ → Command
+takes d hitMap fillMap = record { domain = d; kind = 16; argument = hitMap + 65536 * fillMap }
+
+-- The address of a line. In a cache of one set a line's number is its tag.
+abbrev line : ℕ → ℕ
+line n = 64 * n
+
+-- Document 01's words, numbered from 0 in its order, and their fields.
+abbrev hit : ℕ → List ℕ
+hit way = 0 ∷ way ∷ []
+
+abbrev fill : ℕ → List ℕ
+fill way = 1 ∷ way ∷ []
+
+abbrev evict : ℕ → ℕ → ℕ → List ℕ
+evict way tag dirty = 2 ∷ way ∷ tag ∷ dirty ∷ []
+
+abbrev pass : List ℕ
+pass = 3 ∷ []
+
+abbrev flush : ℕ → ℕ → List ℕ
+flush way dirty = 4 ∷ way ∷ dirty ∷ []
+
+abbrev absent : List ℕ
+absent = 5 ∷ []
+
+abbrev policy : ℕ → ℕ → List ℕ
+policy dropped dirty = 6 ∷ dropped ∷ dirty ∷ []
+
+abbrev refused : ℕ → List ℕ
+refused number = 7 ∷ number ∷ []
+
+-- ---- States
+
+-- A domain: hit map, fill map, and the counts of hits, misses, evicted, written back and flushed.
+abbrev domain : ℕ → ℕ → ℕ → ℕ → ℕ → ℕ → ℕ → Domain
+domain hitMap fillMap hits misses evicted written flushed = record {
+  hit = hitMap;
+  fill = fillMap;
+  counts = record { hits = hits; misses = misses; evicted = evicted; written = written; flushed = flushed };
+}
+
+-- Tags, valid maps, dirty maps, replacement words, and the domains from 0 on; the domains that are not named have nothing.
+abbrev state : List ℕ → List ℕ → List ℕ → List ℕ → List Domain → State
+state tags valid dirty words domains = record {
+  tables = tablesOf tags valid dirty words;
+  domains = record { records = domains ++ replicate (16 - length domains) noDomain };
+}
+
+-- The same of a cache of one set: tags, valid map, dirty map, replacement word, domains.
+abbrev row : List ℕ → ℕ → ℕ → ℕ → List Domain → State
+row tags valid dirty word = state tags (valid ∷ []) (dirty ∷ []) (word ∷ [])
+
+-- All numbers of domains, of a state, and of an answer with a state.
+abbrev domainNumbers : List Domain → List ℕ
+domainNumbers [] = []
+domainNumbers (x ∷ xs) =
+    let c = x .counts in
+    x .hit ∷ x .fill ∷ c .hits ∷ c .misses ∷ c .evicted ∷ c .written ∷ c .flushed ∷ domainNumbers xs
+
+abbrev stateNumbers : State → List ℕ
+stateNumbers s =
+    let t = s .tables in
+    t .tags ++ (t .valid ++ (t .dirty ++ (t .words ++ domainNumbers (s .domains .records))))
+
+abbrev numbers : Outcome → List ℕ
+numbers o = o .answer ++ stateNumbers (o .state)
+
+-- ---- Cases
+
+-- A cache, a step, the state before it, its answer, and the state after it.
+abbrev after : Geometry → Command → State → List ℕ → State → Case
+after g c before answer next = record {
+  given = numbers (stepOn g c before);
+  printed = numbers (record { answer = answer; state = next });
+}
+
+-- A cache, a step that moves nothing, the state before and after it, and its answer.
+abbrev still : Geometry → Command → State → List ℕ → Case
+still g c before answer = after g c before answer before
+
+-- A cache that is fresh, and its state.
+abbrev begins : Geometry → State → Case
+begins g s = record { given = stateNumbers (fresh g); printed = stateNumbers s }
+
+-- "Line = address / 64; set = line mod S; tag = line / S (whole division)"; "the W tags of a set side by side": those of set s are at
+-- s × W and on.
+abbrev places : List Case
+places =
+    -- two sets of two ways: address 192 is in line 3, so set 1 and tag 1
+    after (plru 2 2) (stores 0 192)
+    (state (8 ∷ 9 ∷ 10 ∷ 11 ∷ []) (0 ∷ 0 ∷ []) (0 ∷ 0 ∷ []) (0 ∷ 0 ∷ []) (domain 3 3 1 2 3 4 5 ∷ []))
+    (fill 0)
+    (state (8 ∷ 9 ∷ 1 ∷ 11 ∷ []) (0 ∷ 1 ∷ []) (0 ∷ 1 ∷ []) (0 ∷ 1 ∷ []) (domain 3 3 1 3 3 4 5 ∷ []))
+    -- where both sets have the tag, it is hit in the address's own
+    ∷ after (plru 2 2) (loads 0 192)
+    (state (8 ∷ 1 ∷ 1 ∷ 11 ∷ []) (3 ∷ 1 ∷ []) (0 ∷ 0 ∷ []) (1 ∷ 0 ∷ []) (domain 3 3 1 2 3 4 5 ∷ []))
+    (hit 0)
+    (state (8 ∷ 1 ∷ 1 ∷ 11 ∷ []) (3 ∷ 1 ∷ []) (0 ∷ 0 ∷ []) (1 ∷ 1 ∷ []) (domain 3 3 2 2 3 4 5 ∷ []))
+    -- two sets of four ways: address 447 is in line 6, so set 0 and tag 3
+    ∷ after (plru 2 4) (loads 0 447)
+    (state (8 ∷ 9 ∷ 10 ∷ 11 ∷ 12 ∷ 13 ∷ 14 ∷ 15 ∷ []) (1 ∷ 15 ∷ []) (0 ∷ 8 ∷ []) (2 ∷ 5 ∷ []) (domain 15 15 1 2 3 4 5 ∷ []))
+    (fill 1)
+    (state (8 ∷ 3 ∷ 10 ∷ 11 ∷ 12 ∷ 13 ∷ 14 ∷ 15 ∷ []) (3 ∷ 15 ∷ []) (0 ∷ 8 ∷ []) (1 ∷ 5 ∷ []) (domain 15 15 1 3 3 4 5 ∷ []))
+    -- the next line, 7, is in set 1 and has tag 3 as well
+    ∷ after (plru 2 4) (loads 0 448)
+    (state (8 ∷ 9 ∷ 10 ∷ 11 ∷ 12 ∷ 13 ∷ 14 ∷ 15 ∷ []) (1 ∷ 15 ∷ []) (0 ∷ 8 ∷ []) (2 ∷ 5 ∷ []) (domain 15 15 1 2 3 4 5 ∷ []))
+    (evict 3 15 1)
+    (state (8 ∷ 9 ∷ 10 ∷ 11 ∷ 12 ∷ 13 ∷ 14 ∷ 3 ∷ []) (1 ∷ 15 ∷ []) (0 ∷ 0 ∷ []) (2 ∷ 0 ∷ []) (domain 15 15 1 3 4 5 5 ∷ []))
+    -- "Addresses have 64 bits": the largest is in line 2 ^ 58 - 1, so set 1 and tag 2 ^ 57 - 1
+    ∷ after (plru 2 2) (fetches 0 18446744073709551615)
+    (state (8 ∷ 9 ∷ 10 ∷ 11 ∷ []) (3 ∷ 1 ∷ []) (0 ∷ 0 ∷ []) (0 ∷ 1 ∷ []) (domain 3 3 1 2 3 4 5 ∷ []))
+    (fill 1)
+    (state (8 ∷ 9 ∷ 10 ∷ 144115188075855871 ∷ []) (3 ∷ 3 ∷ []) (0 ∷ 0 ∷ []) (0 ∷ 0 ∷ []) (domain 3 3 1 3 3 4 5 ∷ []))
+    ∷ []
+
+-- "2: a table whose length is not exactly the one above."
+abbrev sizes : List Case
+sizes =
+    -- a tag too few
+    still (plru 1 2) (loads 0 (line 5)) (state (5 ∷ []) (3 ∷ []) (0 ∷ []) (0 ∷ []) (domain 3 3 1 2 3 4 5 ∷ [])) (refused 2)
+    -- a tag too many
+    ∷ still (plru 1 2) (loads 0 (line 5)) (state (5 ∷ 6 ∷ 7 ∷ []) (3 ∷ []) (0 ∷ []) (0 ∷ []) (domain 3 3 1 2 3 4 5 ∷ [])) (refused 2)
+    -- a valid map too many
+    ∷ still (plru 1 2) (loads 0 (line 5)) (state (5 ∷ 6 ∷ []) (3 ∷ 3 ∷ []) (0 ∷ []) (0 ∷ []) (domain 3 3 1 2 3 4 5 ∷ [])) (refused 2)
+    -- a dirty map too many
+    ∷ still (plru 1 2) (loads 0 (line 5)) (state (5 ∷ 6 ∷ []) (3 ∷ []) (0 ∷ 0 ∷ []) (0 ∷ []) (domain 3 3 1 2 3 4 5 ∷ [])) (refused 2)
+    -- a replacement word too many
+    ∷ still (plru 1 2) (loads 0 (line 5)) (state (5 ∷ 6 ∷ []) (3 ∷ []) (0 ∷ []) (0 ∷ 0 ∷ []) (domain 3 3 1 2 3 4 5 ∷ [])) (refused 2)
+    ∷ []
+
+-- "7: access or flush while any count of that domain is 4,294,967,295."
+abbrev largest : ℕ
+largest = 4294967295
+
+abbrev below : ℕ
+below = 4294967294
+
+abbrev fullCounts : List Case
+fullCounts =
+    -- the count of hits
+    still (plru 1 2) (loads 0 (line 5)) (row (5 ∷ 6 ∷ []) 3 1 0 (domain 3 3 largest 2 3 4 5 ∷ [])) (refused 7)
+    -- of misses
+    ∷ still (plru 1 2) (loads 0 (line 5)) (row (5 ∷ 6 ∷ []) 3 1 0 (domain 3 3 1 largest 3 4 5 ∷ [])) (refused 7)
+    -- of evicted lines
+    ∷ still (plru 1 2) (loads 0 (line 5)) (row (5 ∷ 6 ∷ []) 3 1 0 (domain 3 3 1 2 largest 4 5 ∷ [])) (refused 7)
+    -- of lines written back
+    ∷ still (plru 1 2) (loads 0 (line 5)) (row (5 ∷ 6 ∷ []) 3 1 0 (domain 3 3 1 2 3 largest 5 ∷ [])) (refused 7)
+    -- of flushed lines
+    ∷ still (plru 1 2) (loads 0 (line 5)) (row (5 ∷ 6 ∷ []) 3 1 0 (domain 3 3 1 2 3 4 largest ∷ [])) (refused 7)
+    -- one below it in each stands: a hit
+    ∷ after (plru 1 2) (loads 0 (line 5))
+    (row (5 ∷ 6 ∷ []) 3 1 0 (domain 3 3 below below below below below ∷ []))
+    (hit 0)
+    (row (5 ∷ 6 ∷ []) 3 1 1 (domain 3 3 largest below below below below ∷ []))
+    -- an eviction
+    ∷ after (plru 1 2) (loads 0 (line 7))
+    (row (5 ∷ 6 ∷ []) 3 1 0 (domain 3 3 below below below below below ∷ []))
+    (evict 0 5 1)
+    (row (7 ∷ 6 ∷ []) 3 0 1 (domain 3 3 below largest largest largest below ∷ []))
+    -- a flush
+    ∷ after (plru 1 2) (flushes 0 (line 5))
+    (row (5 ∷ 6 ∷ []) 3 1 0 (domain 3 3 below below below below below ∷ []))
+    (flush 0 1)
+    (row (5 ∷ 6 ∷ []) 2 0 0 (domain 3 3 below below below largest largest ∷ []))
+    -- "If several hold, the lowest number is given": with an empty hit map an access is 6
+    ∷ still (plru 1 2) (loads 0 (line 5)) (row (5 ∷ 6 ∷ []) 3 1 0 (domain 0 0 largest largest largest largest largest ∷ [])) (refused 6)
+    -- and so is a flush
+    ∷ still (plru 1 2) (flushes 0 (line 5)) (row (5 ∷ 6 ∷ []) 3 1 0 (domain 0 0 largest largest largest largest largest ∷ [])) (refused 6)
+    -- 7 for a flush that would be absent, and would move no count
+    ∷ still (plru 1 2) (flushes 0 (line 7)) (row (5 ∷ 6 ∷ []) 3 1 0 (domain 3 3 largest 2 3 4 5 ∷ [])) (refused 7)
+    -- 7 for an access that would pass, and would move another count
+    ∷ still (plru 1 2) (loads 0 (line 7)) (row (5 ∷ 6 ∷ []) 3 1 0 (domain 3 0 1 2 3 4 largest ∷ [])) (refused 7)
+    -- "access or flush": a policy change is not refused by 7
+    ∷ after (plru 1 2) (takes 0 1 1)
+    (row (5 ∷ 6 ∷ []) 3 2 1 (domain 3 3 largest largest largest largest largest ∷ []))
+    (policy 1 1)
+    (row (5 ∷ 0 ∷ []) 1 0 0 (domain 1 1 largest largest largest largest largest ∷ []))
+    -- and a removal is not
+    ∷ after (plru 1 2) (takes 0 0 0)
+    (row (5 ∷ 6 ∷ []) 3 2 1 (domain 3 3 largest largest largest largest largest ∷ []))
+    (policy 2 1)
+    (row (0 ∷ 0 ∷ []) 0 0 0 (domain 0 0 0 0 0 0 0 ∷ []))
+    -- "of that domain": another's full counts do not matter
+    ∷ after (plru 1 2) (loads 1 (line 6))
+    (row (5 ∷ 6 ∷ []) 3 1 0 (domain 1 1 largest largest largest largest largest ∷ domain 2 2 1 2 3 4 5 ∷ []))
+    (hit 1)
+    (row (5 ∷ 6 ∷ []) 3 1 0 (domain 1 1 largest largest largest largest largest ∷ domain 2 2 2 2 3 4 5 ∷ []))
+    ∷ []
+
+-- "Fresh: all zero, except that under NRU the low W bits of each replacement word are one. All policies and counts are zero."
+abbrev freshStates : List Case
+freshStates =
+    -- NRU, 16 ways
+    begins (nru 1 16) (row (replicate 16 0) 0 0 65535 [])
+    -- NRU, 2 ways: "each replacement word"
+    ∷ begins (nru 2 2) (state (replicate 4 0) (0 ∷ 0 ∷ []) (0 ∷ 0 ∷ []) (3 ∷ 3 ∷ []) [])
+    -- Tree-PLRU, 16 ways
+    ∷ begins (plru 1 16) (row (replicate 16 0) 0 0 0 [])
+    -- Tree-PLRU, 2 ways
+    ∷ begins (plru 2 2) (state (replicate 4 0) (0 ∷ 0 ∷ []) (0 ∷ 0 ∷ []) (0 ∷ 0 ∷ []) [])
+    ∷ []
+
+abbrev accesses : List Case
+accesses =
+    -- "the way is touched, and a store marks it dirty"
+    after (plru 1 2) (stores 0 (line 6))
+    (row (5 ∷ 6 ∷ []) 3 0 1 (domain 3 3 1 2 3 4 5 ∷ []))
+    (hit 1)
+    (row (5 ∷ 6 ∷ []) 3 2 0 (domain 3 3 2 2 3 4 5 ∷ []))
+    -- a load that hits leaves the dirty mark as it is
+    ∷ after (plru 1 2) (loads 0 (line 6))
+    (row (5 ∷ 6 ∷ []) 3 2 1 (domain 3 3 1 2 3 4 5 ∷ []))
+    (hit 1)
+    (row (5 ∷ 6 ∷ []) 3 2 0 (domain 3 3 2 2 3 4 5 ∷ []))
+    -- "It hits the lowest way of the domain's hit map that is valid with an equal tag": way 0 is not in the map, way 1 is invalid
+    ∷ after (plru 1 4) (loads 0 (line 5))
+    (row (5 ∷ 5 ∷ 5 ∷ 5 ∷ []) 13 0 0 (domain 14 14 1 2 3 4 5 ∷ []))
+    (hit 2)
+    (row (5 ∷ 5 ∷ 5 ∷ 5 ∷ []) 13 0 4 (domain 14 14 2 2 3 4 5 ∷ []))
+    -- "Touching way w sets each free node", and for an empty fill map no node is free
+    ∷ after (plru 1 2) (loads 0 (line 6))
+    (row (5 ∷ 6 ∷ []) 3 0 1 (domain 3 0 1 2 3 4 5 ∷ []))
+    (hit 1)
+    (row (5 ∷ 6 ∷ []) 3 0 1 (domain 3 0 2 2 3 4 5 ∷ []))
+    -- "Touching w clears its bit if w is in the fill map": here it is in the hit map alone
+    ∷ after (nru 1 2) (loads 0 (line 6))
+    (row (5 ∷ 6 ∷ []) 3 0 3 (domain 3 1 1 2 3 4 5 ∷ []))
+    (hit 1)
+    (row (5 ∷ 6 ∷ []) 3 0 3 (domain 3 1 2 2 3 4 5 ∷ []))
+    -- and here in both
+    ∷ after (nru 1 2) (loads 0 (line 5))
+    (row (5 ∷ 6 ∷ []) 3 0 3 (domain 3 1 1 2 3 4 5 ∷ []))
+    (hit 0)
+    (row (5 ∷ 6 ∷ []) 3 0 2 (domain 3 1 2 2 3 4 5 ∷ []))
+    -- "With an empty fill map it passes: nothing but the miss count moves", also where a way is invalid
+    ∷ after (plru 1 2) (stores 0 (line 7))
+    (row (5 ∷ 6 ∷ []) 2 2 1 (domain 3 0 1 2 3 4 5 ∷ []))
+    pass
+    (row (5 ∷ 6 ∷ []) 2 2 1 (domain 3 0 1 3 3 4 5 ∷ []))
+    -- "The filled way is valid, dirty only for a store": a dirty mark on an invalid way goes when a load fills it
+    ∷ after (plru 1 2) (loads 0 (line 7))
+    (row (5 ∷ 6 ∷ []) 2 3 0 (domain 3 3 1 2 3 4 5 ∷ []))
+    (fill 0)
+    (row (7 ∷ 6 ∷ []) 3 2 1 (domain 3 3 1 3 3 4 5 ∷ []))
+    -- "the victim is evicted and its tag and dirtiness answered": a load over a dirty line leaves the way clean
+    ∷ after (plru 1 2) (loads 0 (line 7))
+    (row (5 ∷ 6 ∷ []) 3 3 0 (domain 3 3 1 2 3 4 5 ∷ []))
+    (evict 0 5 1)
+    (row (7 ∷ 6 ∷ []) 3 2 1 (domain 3 3 1 3 4 5 5 ∷ []))
+    -- a store over a clean line makes the way dirty, and nothing is written back
+    ∷ after (plru 1 2) (stores 0 (line 7))
+    (row (5 ∷ 6 ∷ []) 3 1 1 (domain 3 3 1 2 3 4 5 ∷ []))
+    (evict 1 6 0)
+    (row (5 ∷ 7 ∷ []) 3 3 0 (domain 3 3 1 3 4 4 5 ∷ []))
+    -- "if there is none, all bits of the fill map become one and its lowest way is the victim": ways 0 and 1 are others'
+    ∷ after (nru 1 4) (loads 0 (line 9))
+    (row (5 ∷ 6 ∷ 7 ∷ 8 ∷ []) 15 8 3 (domain 12 12 1 2 3 4 5 ∷ []))
+    (evict 2 7 0)
+    (row (5 ∷ 6 ∷ 9 ∷ 8 ∷ []) 15 8 11 (domain 12 12 1 3 4 4 5 ∷ []))
+    ∷ []
+
+-- "A hit, found as above, is made invalid and not dirty; its tag and all replacement bits stay."
+abbrev lineFlushes : List Case
+lineFlushes =
+    -- a dirty line: "flushed rises by one and, if dirty, written back too"
+    after (plru 1 4) (flushes 0 (line 9))
+    (row (7 ∷ 8 ∷ 9 ∷ 10 ∷ []) 15 6 5 (domain 15 15 1 2 3 4 5 ∷ []))
+    (flush 2 1)
+    (row (7 ∷ 8 ∷ 9 ∷ 10 ∷ []) 11 2 5 (domain 15 15 1 2 3 5 6 ∷ []))
+    -- a clean line, under NRU
+    ∷ after (nru 1 4) (flushes 0 (line 7))
+    (row (7 ∷ 8 ∷ 9 ∷ 10 ∷ []) 15 6 15 (domain 15 15 1 2 3 4 5 ∷ []))
+    (flush 0 0)
+    (row (7 ∷ 8 ∷ 9 ∷ 10 ∷ []) 14 6 15 (domain 15 15 1 2 3 4 6 ∷ []))
+    -- of two valid ways with one tag, the lowest of the hit map
+    ∷ after (plru 1 4) (flushes 0 (line 5))
+    (row (5 ∷ 5 ∷ 5 ∷ 5 ∷ []) 15 8 0 (domain 12 12 1 2 3 4 5 ∷ []))
+    (flush 2 0)
+    (row (5 ∷ 5 ∷ 5 ∷ 5 ∷ []) 11 8 0 (domain 12 12 1 2 3 4 6 ∷ []))
+    -- "Else the answer is absent and no count moves": the line is in a way outside the hit map
+    ∷ still (plru 1 4) (flushes 0 (line 9)) (row (7 ∷ 8 ∷ 9 ∷ 10 ∷ []) 15 15 5 (domain 3 3 1 2 3 4 5 ∷ [])) absent
+    -- its way is invalid, and keeps its dirty mark
+    ∷ still (plru 1 4) (flushes 0 (line 7)) (row (7 ∷ 8 ∷ 9 ∷ 10 ∷ []) 14 15 5 (domain 3 3 1 2 3 4 5 ∷ [])) absent
+    ∷ []
+
+-- "Ways in exactly one of the old and new hit maps are cleaned in every set: invalid, not dirty, tag zero." "The answer is the number of
+-- valid lines dropped and how many of them were dirty; counts do not move."
+abbrev cleanings : List Case
+cleanings =
+    -- way 1 is gained, with a line in it that is nobody's; way 0, in both maps, and ways 2 and 3, in neither, are left alone
+    after (plru 1 4) (takes 0 3 3)
+    (row (5 ∷ 6 ∷ 7 ∷ 8 ∷ []) 15 15 7 (domain 1 1 1 2 3 4 5 ∷ []))
+    (policy 1 1)
+    (row (5 ∷ 0 ∷ 7 ∷ 8 ∷ []) 13 13 5 (domain 3 3 1 2 3 4 5 ∷ []))
+    -- way 1 is lost
+    ∷ after (plru 1 4) (takes 0 1 1)
+    (row (5 ∷ 6 ∷ 7 ∷ 8 ∷ []) 15 13 7 (domain 3 3 1 2 3 4 5 ∷ []))
+    (policy 1 0)
+    (row (5 ∷ 0 ∷ 7 ∷ 8 ∷ []) 13 13 5 (domain 1 1 1 2 3 4 5 ∷ []))
+    -- way 0 is lost, way 2 gained, way 1 in both
+    ∷ after (nru 1 4) (takes 0 6 6)
+    (row (5 ∷ 6 ∷ 7 ∷ 8 ∷ []) 15 7 0 (domain 3 3 1 2 3 4 5 ∷ []))
+    (policy 2 2)
+    (row (0 ∷ 6 ∷ 0 ∷ 8 ∷ []) 10 2 5 (domain 6 6 1 2 3 4 5 ∷ []))
+    -- "in every set"
+    ∷ after (plru 2 2) (takes 0 3 3)
+    (state (5 ∷ 6 ∷ 7 ∷ 8 ∷ []) (3 ∷ 2 ∷ []) (2 ∷ 0 ∷ []) (1 ∷ 1 ∷ []) (domain 1 1 1 2 3 4 5 ∷ []))
+    (policy 2 1)
+    (state (5 ∷ 0 ∷ 7 ∷ 0 ∷ []) (1 ∷ 0 ∷ []) (0 ∷ 0 ∷ []) (0 ∷ 0 ∷ []) (domain 3 3 1 2 3 4 5 ∷ []))
+    -- "how many of them": a dirty mark on an invalid way is not counted, and goes with its way
+    ∷ after (plru 1 2) (takes 0 3 3)
+    (row (5 ∷ 6 ∷ []) 0 3 1 (domain 1 1 1 2 3 4 5 ∷ []))
+    (policy 0 0)
+    (row (5 ∷ 0 ∷ []) 0 1 0 (domain 3 3 1 2 3 4 5 ∷ []))
+    -- "counts do not move": a dirty line that is dropped is not written back
+    ∷ after (plru 1 2) (takes 0 2 2)
+    (row (5 ∷ 6 ∷ []) 3 3 1 (domain 3 3 1 2 3 4 5 ∷ []))
+    (policy 1 1)
+    (row (0 ∷ 6 ∷ []) 2 2 0 (domain 2 2 1 2 3 4 5 ∷ []))
+    -- "Two zero maps remove the domain and zero its counts", and no other's
+    ∷ after (plru 1 2) (takes 0 0 0)
+    (row (5 ∷ 6 ∷ []) 3 1 1 (domain 3 3 1 2 3 4 5 ∷ domain 0 0 1 2 3 4 5 ∷ []))
+    (policy 2 1)
+    (row (0 ∷ 0 ∷ []) 0 0 0 (domain 0 0 0 0 0 0 0 ∷ domain 0 0 1 2 3 4 5 ∷ []))
+    -- also where the domain has no way
+    ∷ after (plru 1 2) (takes 0 0 0)
+    (row (5 ∷ 6 ∷ []) 3 1 1 (domain 0 0 1 2 3 4 5 ∷ []))
+    (policy 0 0)
+    (row (5 ∷ 6 ∷ []) 3 1 1 (domain 0 0 0 0 0 0 0 ∷ []))
+    -- a hit map with an empty fill map is no removal: the counts stay
+    ∷ after (plru 1 2) (takes 0 3 0)
+    (row (5 ∷ 6 ∷ []) 3 1 1 (domain 3 3 1 2 3 4 5 ∷ []))
+    (policy 0 0)
+    (row (5 ∷ 6 ∷ []) 3 1 0 (domain 3 0 1 2 3 4 5 ∷ []))
+    -- a fill map with an empty hit map is "a fill map that is not part of the hit map"
+    ∷ still (plru 1 2) (takes 0 0 1) (row (5 ∷ 6 ∷ []) 3 1 1 (domain 3 3 1 2 3 4 5 ∷ [])) (refused 5)
+    ∷ []
+
+-- "NRU bits of ways in exactly one of the old and new fill maps become one. Tree nodes free under exactly one of them become zero."
+abbrev resets : List Case
+resets =
+    -- fill map 3 has free node 1, fill map 6 has free node 0, and node 2 is free under neither
+    after (plru 1 4) (takes 0 15 6)
+    (row (5 ∷ 6 ∷ 7 ∷ 8 ∷ []) 15 15 7 (domain 15 3 1 2 3 4 5 ∷ []))
+    (policy 0 0)
+    (row (5 ∷ 6 ∷ 7 ∷ 8 ∷ []) 15 15 4 (domain 15 6 1 2 3 4 5 ∷ []))
+    -- fill map 7 has free nodes 0 and 1, so that node 1 is free under both
+    ∷ after (plru 1 4) (takes 0 15 7)
+    (row (5 ∷ 6 ∷ 7 ∷ 8 ∷ []) 15 15 7 (domain 15 3 1 2 3 4 5 ∷ []))
+    (policy 0 0)
+    (row (5 ∷ 6 ∷ 7 ∷ 8 ∷ []) 15 15 6 (domain 15 7 1 2 3 4 5 ∷ []))
+    -- bits 0 and 2 become one; bit 1, of a way in both, stays zero, and bit 3, of a way in neither, stays one
+    ∷ after (nru 1 4) (takes 0 15 6)
+    (row (5 ∷ 6 ∷ 7 ∷ 8 ∷ []) 15 15 8 (domain 15 3 1 2 3 4 5 ∷ []))
+    (policy 0 0)
+    (row (5 ∷ 6 ∷ 7 ∷ 8 ∷ []) 15 15 13 (domain 15 6 1 2 3 4 5 ∷ []))
+    -- bits 1 and 2 are one afterwards, whichever they were; bit 0, of a way in both, stays one, and bit 3, of a way in neither, zero
+    ∷ after (nru 1 4) (takes 0 15 5)
+    (row (5 ∷ 6 ∷ 7 ∷ 8 ∷ []) 15 15 3 (domain 15 3 1 2 3 4 5 ∷ []))
+    (policy 0 0)
+    (row (5 ∷ 6 ∷ 7 ∷ 8 ∷ []) 15 15 7 (domain 15 5 1 2 3 4 5 ∷ []))
+    ∷ []
+
+-- "Bits and words not named stay": those at W and above. Of two ways, 65,532 has the bits of a map from 2 on, and 2 ^ 64 - 4 those of a word.
+abbrev highBits : List Case
+highBits =
+    -- a fill under Tree-PLRU: the word was 2 ^ 64 - 2
+    after (plru 1 2) (stores 0 (line 7))
+    (row (5 ∷ 6 ∷ []) 65532 65532 18446744073709551614 (domain 3 3 1 2 3 4 5 ∷ []))
+    (fill 0)
+    (row (7 ∷ 6 ∷ []) 65533 65533 18446744073709551615 (domain 3 3 1 3 3 4 5 ∷ []))
+    -- a fill under NRU, where they are zero
+    ∷ after (nru 1 2) (stores 0 (line 7))
+    (row (5 ∷ 6 ∷ []) 0 0 3 (domain 3 3 1 2 3 4 5 ∷ []))
+    (fill 0)
+    (row (7 ∷ 6 ∷ []) 1 1 2 (domain 3 3 1 3 3 4 5 ∷ []))
+    -- an eviction: no bit of the fill map is one, whatever stands above
+    ∷ after (nru 1 2) (loads 0 (line 7))
+    (row (5 ∷ 6 ∷ []) 65535 65535 18446744073709551612 (domain 3 3 1 2 3 4 5 ∷ []))
+    (evict 0 5 1)
+    (row (7 ∷ 6 ∷ []) 65535 65534 18446744073709551614 (domain 3 3 1 3 4 5 5 ∷ []))
+    -- a hit
+    ∷ after (nru 1 2) (stores 0 (line 6))
+    (row (5 ∷ 6 ∷ []) 65535 65532 18446744073709551615 (domain 3 3 1 2 3 4 5 ∷ []))
+    (hit 1)
+    (row (5 ∷ 6 ∷ []) 65535 65534 18446744073709551613 (domain 3 3 2 2 3 4 5 ∷ []))
+    -- a flush
+    ∷ after (plru 1 2) (flushes 0 (line 6))
+    (row (5 ∷ 6 ∷ []) 65535 65535 18446744073709551615 (domain 3 3 1 2 3 4 5 ∷ []))
+    (flush 1 1)
+    (row (5 ∷ 6 ∷ []) 65533 65533 18446744073709551615 (domain 3 3 1 2 3 5 6 ∷ []))
+    -- a policy change under Tree-PLRU
+    ∷ after (plru 1 2) (takes 0 3 3)
+    (row (5 ∷ 6 ∷ []) 65535 65535 18446744073709551615 (domain 1 1 1 2 3 4 5 ∷ []))
+    (policy 1 1)
+    (row (5 ∷ 0 ∷ []) 65533 65533 18446744073709551614 (domain 3 3 1 2 3 4 5 ∷ []))
+    -- a policy change under NRU
+    ∷ after (nru 1 2) (takes 0 3 3)
+    (row (5 ∷ 6 ∷ []) 65535 65535 18446744073709551612 (domain 1 1 1 2 3 4 5 ∷ []))
+    (policy 1 1)
+    (row (5 ∷ 0 ∷ []) 65533 65533 18446744073709551614 (domain 3 3 1 2 3 4 5 ∷ []))
+    -- a removal: the bits of the word that are zero stay
+    ∷ after (nru 1 2) (takes 0 0 0)
+    (row (5 ∷ 6 ∷ []) 65535 65535 0 (domain 3 3 1 2 3 4 5 ∷ []))
+    (policy 2 2)
+    (row (0 ∷ 0 ∷ []) 65532 65532 3 (domain 0 0 0 0 0 0 0 ∷ []))
+    ∷ []
+
+-- "A stored policy may hold anything. It is read with ways of W or more left out of both maps and the fill map cut to its hit map; maps
+-- that overlap between domains are read as they are."
+abbrev storedMaps : List Case
+storedMaps =
+    -- hit map 3 and fill map 12: the fill map is read as empty, so that a miss passes
+    after (nru 1 4) (loads 0 (line 9))
+    (row (5 ∷ 6 ∷ 7 ∷ 8 ∷ []) 0 0 0 (domain 3 12 1 2 3 4 5 ∷ []))
+    pass
+    (row (5 ∷ 6 ∷ 7 ∷ 8 ∷ []) 0 0 0 (domain 3 12 1 3 3 4 5 ∷ []))
+    -- and in a policy of 3 and 3 ways 0 and 1 are new in the fill map, and no way leaves it
+    ∷ after (nru 1 4) (takes 0 3 3)
+    (row (5 ∷ 6 ∷ 7 ∷ 8 ∷ []) 15 15 0 (domain 3 12 1 2 3 4 5 ∷ []))
+    (policy 0 0)
+    (row (5 ∷ 6 ∷ 7 ∷ 8 ∷ []) 15 15 3 (domain 3 3 1 2 3 4 5 ∷ []))
+    -- hit map 1 and fill map 3: way 1 is no victim, though its bit is one
+    ∷ after (nru 1 2) (loads 0 (line 9))
+    (row (5 ∷ 6 ∷ []) 3 0 2 (domain 1 3 1 2 3 4 5 ∷ []))
+    (evict 0 5 0)
+    (row (9 ∷ 6 ∷ []) 3 0 2 (domain 1 3 1 3 4 4 5 ∷ []))
+    -- of two ways, a hit map of 12 is read as empty
+    ∷ still (plru 1 2) (loads 0 (line 5)) (row (5 ∷ 6 ∷ []) 3 0 1 (domain 12 12 1 2 3 4 5 ∷ [])) (refused 6)
+    -- maps of 13 are read as 1, and stay stored as they are
+    ∷ after (plru 1 2) (loads 0 (line 9))
+    (row (5 ∷ 6 ∷ []) 3 0 1 (domain 13 13 1 2 3 4 5 ∷ []))
+    (evict 0 5 0)
+    (row (9 ∷ 6 ∷ []) 3 0 1 (domain 13 13 1 3 4 4 5 ∷ []))
+    -- maps of 65,535 are read as 3, so that a policy of 3 and 3 cleans nothing
+    ∷ after (nru 1 2) (takes 0 3 3)
+    (row (5 ∷ 6 ∷ []) 65535 65535 0 (domain 65535 65535 1 2 3 4 5 ∷ []))
+    (policy 0 0)
+    (row (5 ∷ 6 ∷ []) 65535 65535 0 (domain 3 3 1 2 3 4 5 ∷ []))
+    -- number 9: beside hit map 3 a fill map of 15 is read as 3, which has no free node in common with 12
+    ∷ after (plru 1 4) (takes 0 12 12)
+    (row (5 ∷ 6 ∷ 7 ∷ 8 ∷ []) 15 8 7 (domain 0 0 1 2 3 4 5 ∷ domain 3 15 1 2 3 4 5 ∷ []))
+    (policy 2 1)
+    (row (5 ∷ 6 ∷ 0 ∷ 0 ∷ []) 3 0 3 (domain 12 12 1 2 3 4 5 ∷ domain 3 15 1 2 3 4 5 ∷ []))
+    -- "9: policy under Tree-PLRU with a node free for it and for another domain": node 0 is, for 5 and 10
+    ∷ still (plru 1 4) (takes 0 10 10) (row (5 ∷ 6 ∷ 7 ∷ 8 ∷ []) 15 8 7 (domain 0 0 1 2 3 4 5 ∷ domain 5 5 1 2 3 4 5 ∷ [])) (refused 9)
+    -- free nodes are those of fill maps: hit maps 5 and 10 with an empty fill map stand
+    ∷ after (plru 1 4) (takes 0 10 0)
+    (row (5 ∷ 6 ∷ 7 ∷ 8 ∷ []) 15 8 7 (domain 0 0 1 2 3 4 5 ∷ domain 5 5 1 2 3 4 5 ∷ []))
+    (policy 2 1)
+    (row (5 ∷ 0 ∷ 7 ∷ 0 ∷ []) 5 0 7 (domain 10 0 1 2 3 4 5 ∷ domain 5 5 1 2 3 4 5 ∷ []))
+    -- where two domains have way 1, each hits in it
+    ∷ after (plru 1 4) (loads 1 (line 6))
+    (row (5 ∷ 6 ∷ 7 ∷ 8 ∷ []) 15 0 0 (domain 7 7 1 2 3 4 5 ∷ domain 6 6 1 2 3 4 5 ∷ []))
+    (hit 1)
+    (row (5 ∷ 6 ∷ 7 ∷ 8 ∷ []) 15 0 1 (domain 7 7 1 2 3 4 5 ∷ domain 6 6 2 2 3 4 5 ∷ []))
+    -- "8: policy whose hit map shares a way with another domain's", also one that gives up a way and gains none
+    ∷ still (plru 1 4) (takes 0 3 3) (row (5 ∷ 6 ∷ 7 ∷ 8 ∷ []) 15 8 7 (domain 7 7 1 2 3 4 5 ∷ domain 6 6 1 2 3 4 5 ∷ [])) (refused 8)
+    -- it is the new hit map that 8 goes by: to give up the ways in common stands
+    ∷ after (plru 1 4) (takes 0 1 1)
+    (row (5 ∷ 6 ∷ 7 ∷ 8 ∷ []) 15 10 7 (domain 7 7 1 2 3 4 5 ∷ domain 6 6 1 2 3 4 5 ∷ []))
+    (policy 2 1)
+    (row (5 ∷ 0 ∷ 0 ∷ 8 ∷ []) 9 8 4 (domain 1 1 1 2 3 4 5 ∷ domain 6 6 1 2 3 4 5 ∷ []))
+    -- a removal cleans also the ways that another domain has
+    ∷ after (plru 1 4) (takes 0 0 0)
+    (row (5 ∷ 6 ∷ 7 ∷ 8 ∷ []) 15 10 7 (domain 7 7 1 2 3 4 5 ∷ domain 6 6 1 2 3 4 5 ∷ []))
+    (policy 3 1)
+    (row (0 ∷ 0 ∷ 0 ∷ 8 ∷ []) 8 8 4 (domain 0 0 0 0 0 0 0 ∷ domain 6 6 1 2 3 4 5 ∷ []))
+    ∷ []
+
+unfoldable pub lent : List Case
+lent = places ++ (sizes ++ (fullCounts ++ (freshStates ++ (accesses ++ (lineFlushes ++ (cleanings ++ (resets ++ (highBits ++ storedMaps))))))))
