@@ -115,7 +115,8 @@ fn case_l() {
 // A file of 4,096 steps, and one byte more.
 fn longer() {
     let mut file = [0u8; 40969];
-    let count = input::read_file(&mut file);
+    let got = streams::read_file(&mut file);
+    let count = got.count;
     show(&file[..count], true);
 }
 

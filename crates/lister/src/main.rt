@@ -1,21 +1,35 @@
-// Writes the listing of the trace file on standard input to standard output.
+// Writes the listing of the trace file on standard input to standard output. A failed read or write is told on standard error, and a file
+// that was not read to its end is not listed.
 use libc::STDOUT_FILENO;
 
-fn main() {
-    let mut file = [0u8; 40969];
-    let count = input::read_file(&mut file);
+// Lists a file, and answers whether the whole listing was written.
+fn show(file: &[u8]) -> bool {
     let mut tags = [0u64; 4096];
     let mut valid = [0u16; 256];
     let mut dirty = [0u16; 256];
     let mut words = [0u64; 256];
     let mut out = [0u8; 393216];
     let length = trace::list(
-        &file[..count],
+        file,
         &mut tags,
         &mut valid,
         &mut dirty,
         &mut words,
         &mut out,
     );
-    io::write_all(STDOUT_FILENO, &out[..length]);
+    io::write_all(STDOUT_FILENO, &out[..length])
+}
+
+fn main() {
+    let mut file = [0u8; 40969];
+    let got = streams::read_file(&mut file);
+    let count = got.count;
+    if got.whole {
+        if show(&file[..count]) {
+            return;
+        }
+        streams::tell(b"lister: standard output could not be written\n");
+        return;
+    }
+    streams::tell(b"lister: standard input could not be read to its end\n");
 }

@@ -1,6 +1,6 @@
 -- NRU on 64-bit words, and why the number of ways does not matter to it.
 use mathlib.Core.Path.{_≡_, refl, sym, ap, ap₂, _∙_}
-use mathlib.Core.Bool.{Bool, true, false, cond, not, _&&_, _||_, and-true, and-false, or-comm}
+use mathlib.Core.Bool.{Bool, true, false, cond, not, _&&_, _||_, and-true, and-false, and-comm, or-comm}
 use Prim.Native.Nat.{ℕ, _-_, _%_, _^_, _≤_, _<_}
 use native.Mathlib.Nat.{lt-of-le-of-lt, lt-of-lt-of-le}
 use native.Mathlib.Omega.{arith}
@@ -12,8 +12,8 @@ use Rattle.waymap.proofs.Booleans.{cases, cleared, raised}
 use Rattle.waymap.proofs.BitLaws.{bit-and, bit-or, bit-xor, bit-not, bit-mod}
 use Rattle.waymap.proofs.WordLaws.{word-lt, bit-word, word-ext, from-bits, bit-high}
 use Rattle.waymap.proofs.WayLaws.{any-ext, any-bits, any-wider, lowest-ext, lowest-wider}
-use Rattle.nru.specs.Nru.{before, victim, touch, changes, reset, fresh}
-use Rattle.nru.specs.Calls.{victimOf, touchOf, changeOf, resetOf, freshOf}
+use Rattle.nru.specs.Nru.{before, victim, touch, changes, reset, fresh, own}
+use Rattle.nru.specs.Calls.{victimOf, touchOf, changeOf, resetOf, freshOf, ownOf}
 use Rattle.nru.proofs.NruLaws.{ready}
 
 -- ---- the victim
@@ -128,6 +128,12 @@ change-resets old new x h k = word-ext 64 (λ i l. ap (λ (t : Bool). cond t tru
   where
     moved : (i : ℕ) → bit (changeOf old new) i ≡ changes (bit old) (bit new) i
     moved i = ap (λ (n : ℕ). bit n i) (sym (change-word old new h k)) ∙ bit-xor old new i
+
+-- the bits of the map's ways
+pub own-word : (map x : ℕ) → x < 2 ^ 64 → bitAnd x map ≡ ownOf x map
+unfolding ownOf own
+own-word map x h =
+    from-bits 64 (lt-of-le-of-lt (and-le-l x map) h) (λ i l. bit-and x map i ∙ and-comm (bit x i) (bit map i))
 
 -- the first W bits, as a word of 16 bits and of 64
 pub fresh-word : (W : ℕ) → W ≤ 16 → freshOf W ≡ word 64 (fresh W)

@@ -2,7 +2,7 @@
 use mathlib.Core.Bool.{true, cond}
 use Prim.Native.Nat.{ℕ}
 use Rattle.waymap.specs.Bits.{bit, word}
-use Rattle.nru.specs.Nru.{before, victim, touch, changes, fresh}
+use Rattle.nru.specs.Nru.{before, victim, touch, changes, own, fresh}
 use Rattle.nru.specs.declared.Choice.{Choice}
 
 -- The victim, 16 of an empty map, and the word before its touch.
@@ -19,6 +19,10 @@ changeOf old new = word 16 (changes (bit old) (bit new))
 
 unfoldable pub resetOf : ℕ → ℕ → ℕ
 resetOf x ways = word 64 (λ w. cond (bit ways w) true (bit x w))
+
+-- The own part of a word.
+unfoldable pub ownOf : ℕ → ℕ → ℕ
+ownOf x map = word 64 (own (bit map) (bit x))
 
 -- The word of a fresh cache.
 unfoldable pub freshOf : ℕ → ℕ

@@ -23,6 +23,10 @@ changes old new w = xor (old w) (new w)
 unfoldable pub reset : Bits → Bits → Bits → Bits
 reset old new b w = cond (changes old new w) true (b w)
 
+-- A domain's own replacement bits are "the NRU bits of its fill map": those bits of a word, and zero elsewhere.
+unfoldable pub own : Bits → Bits → Bits
+own m b w = m w && b w
+
 -- "under NRU the low W bits of each replacement word are one"
 unfoldable pub fresh : ℕ → Bits
 fresh W w = ltb w W

@@ -1,6 +1,6 @@
 // NRU, without any cache above it. Bit w of a word belongs to way w.
 ghost use mathlib.Core.Path.{_≡_};
-ghost use Rattle.nru.specs.Calls.{victimOf, touchOf, changeOf, resetOf, freshOf};
+ghost use Rattle.nru.specs.Calls.{victimOf, touchOf, changeOf, resetOf, ownOf, freshOf};
 
 // A victim, and the word before its touch.
 pub struct Choice {
@@ -45,6 +45,13 @@ pub fn reset(word: u64, ways: u64) -> u64
     ensures { λ r. ⌜ r ≡ resetOf word ways ⌝ }
 {
     word | ways
+}
+
+// The own part of a word: its bits of the map's ways.
+pub fn own(word: u64, map: u16) -> u64
+    ensures { λ r. ⌜ r ≡ ownOf word map ⌝ }
+{
+    word & (map as u64)
 }
 
 // The word of a fresh cache.

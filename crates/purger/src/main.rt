@@ -1,6 +1,6 @@
 // Writes the steps that are left of the trace file on standard input when the purge of a domain strikes out the others' accesses and
-// flushes: a line for each step, with its domain, kind and argument. The domain is the first argument. A file that is refused by 10, and
-// an argument that is no number below 16, give nothing.
+// flushes: a line for each step, with its domain, kind and argument. The domain is the first argument. A file that is refused by 10 gives
+// nothing. An argument that is no number below 16, and a failed read or write, are told on standard error.
 use libc::STDOUT_FILENO;
 ghost use Prim.Native.Nat.{_≤_};
 ghost use lib.ListN.{length};
@@ -59,28 +59,39 @@ fn split(file: &[u8], n: u32, codes: &mut [u16], arguments: &mut [u64])
     }
 }
 
-// Writes a line for each of the first steps.
-fn show(codes: &[u16], arguments: &[u64], count: usize)
+// Writes a line for each of the first steps, up to the first that cannot be written, and answers whether all were.
+fn show(codes: &[u16], arguments: &[u64], count: usize) -> bool
     requires { ⌜ count ≤ length (now codes) ⌝ }
     requires { ⌜ count ≤ length (now arguments) ⌝ }
 {
     let mut i = 0;
     while i < count {
-        show_step(codes[i], arguments[i]);
+        if show_step(codes[i], arguments[i]) {} else {
+            return false;
+        }
         i += 1;
     }
+    true
 }
 
-fn show_step(code: u16, argument: u64) {
-    io::print_decimal(STDOUT_FILENO, (code % 256) as u64);
-    io::write_all(STDOUT_FILENO, b" ");
-    io::print_decimal(STDOUT_FILENO, (code / 256) as u64);
-    io::write_all(STDOUT_FILENO, b" ");
-    io::print_decimal(STDOUT_FILENO, argument);
-    io::write_all(STDOUT_FILENO, b"\n");
+// Writes a number and what follows it, and answers whether both were written.
+fn show_number(n: u64, after: &[u8]) -> bool {
+    if io::print_decimal(STDOUT_FILENO, n) {
+        return io::write_all(STDOUT_FILENO, after);
+    }
+    false
 }
 
-// Writes the steps of a file of n that the purge of a domain keeps. The lists lent have room for n steps.
+fn show_step(code: u16, argument: u64) -> bool {
+    if show_number((code % 256) as u64, b" ") {
+        if show_number((code / 256) as u64, b" ") {
+            return show_number(argument, b"\n");
+        }
+    }
+    false
+}
+
+// Writes the steps of a file of n that the purge of a domain keeps, and answers whether all were written. The lists lent have room for n steps.
 fn purge(
     file: &[u8],
     n: u32,
@@ -89,7 +100,7 @@ fn purge(
     arguments: &mut [u64],
     kept_codes: &mut [u16],
     kept_arguments: &mut [u64],
-)
+) -> bool
     requires { ⌜ n ≤ length (now codes) ⌝ }
     requires { ⌜ n ≤ length (now arguments) ⌝ }
     requires { ⌜ n ≤ length (now «kept_codes») ⌝ }
@@ -99,17 +110,17 @@ fn purge(
     let purged = purge::purge_trace(domain, codes, arguments, kept_codes, kept_arguments);
     let count = purged.count;
     if (n as usize) < count {
-        return;
+        return false;
     }
-    show(kept_codes, kept_arguments, count);
+    show(kept_codes, kept_arguments, count)
 }
 
 // Lends lists of as many steps as the file has.
-fn lend(file: &[u8], domain: usize) {
+fn lend(file: &[u8], domain: usize) -> bool {
     let n = tracefile::steps(file);
     let steps = n as usize;
     if 4096 < steps {
-        return;
+        return false;
     }
     let mut codes = [0u16; 4096];
     let mut arguments = [0u64; 4096];
@@ -123,20 +134,39 @@ fn lend(file: &[u8], domain: usize) {
         &mut arguments[0..steps],
         &mut kept_codes[0..steps],
         &mut kept_arguments[0..steps],
-    );
+    )
+}
+
+// Purges a file that was read to its end, and answers whether all was written.
+fn show_file(file: &[u8], domain: usize) -> bool {
+    if tracefile::refusal(file) == 10 {
+        return true;
+    }
+    lend(file, domain)
+}
+
+// Purges the file on standard input.
+fn purge_input(domain: usize) {
+    let mut file = [0u8; 40969];
+    let got = streams::read_file(&mut file);
+    let count = got.count;
+    if got.whole {
+        if show_file(&file[..count], domain) {
+            return;
+        }
+        streams::tell(b"purger: standard output could not be written\n");
+        return;
+    }
+    streams::tell(b"purger: standard input could not be read to its end\n");
 }
 
 fn main() {
     let mut name = [0u8; 4];
     let length = os::arg(1, &mut name);
     let domain = domain_of(&name[..length]);
-    if 16 <= domain {
+    if domain < 16 {
+        purge_input(domain);
         return;
     }
-    let mut file = [0u8; 40969];
-    let count = input::read_file(&mut file);
-    if tracefile::refusal(&file[..count]) == 10 {
-        return;
-    }
-    lend(&file[..count], domain);
+    streams::tell(b"purger: the first argument has to be a domain, 0 to 15\n");
 }

@@ -20,7 +20,7 @@ use Rattle.nru.specs.Calls as Nru
 use Rattle.nru.specs.declared.Choice.{Choice}
 use Rattle.nru.proofs.NruWordLaws as NruLaws
 use Rattle.replacement.specs.Rule.{Rule, tree, nru, ruleOf}
-use Rattle.replacement.specs.Calls.{inLimits, victimOf, touchOf, freshOf, sharesOf}
+use Rattle.replacement.specs.Calls.{inLimits, victimOf, touchOf, freshOf, ownOf, sharesOf}
 use Rattle.replacement.specs.Change.{changeOf, changeUnder, changeBy}
 
 -- ---- the limits
@@ -72,6 +72,10 @@ module _ (W rule x map : ℕ) (limits : inLimits W rule ≡ true) (reach : reach
   unfolding touchOf
   touch-given way h e = rw (limits, reach, lt-ltb way W h, e)
 
+  pub own-given : {y : ℕ} → y ≡ ruleOf rule W .part map x → record { answer = 0 ∷ []; word = y } ≡ ownOf W rule x map
+  unfolding ownOf
+  own-given e = rw (limits, reach, e)
+
 pub fresh-given : (W rule : ℕ) {y : ℕ} → inLimits W rule ≡ true → y ≡ ruleOf rule W .fresh → record { answer = 0 ∷ []; word = y } ≡ freshOf W rule
 unfolding freshOf
 fresh-given W rule limits e = rw (limits, e)
@@ -94,6 +98,10 @@ module _ (W : ℕ) (w : isWays W ≡ true) where
   pub tree-touch : (x map way : ℕ) → reaches W map ≡ false → way < W → Tree.touchOf W x map way ≡ tree W .touch map way x
   unfolding Tree.touchOf
   tree-touch x map way r h = rw (tree-takes map r, lt-ltb way W h)
+
+  pub tree-own : (x map : ℕ) → reaches W map ≡ false → Tree.ownOf W x map ≡ tree W .part map x
+  unfolding Tree.ownOf
+  tree-own x map r = rw (tree-takes map r)
 
   pub tree-shares : (a b : ℕ) → reaches W (bitOr a b) ≡ false → Tree.sharesOf W a b ≡ tree W .shares a b
   unfolding Tree.sharesOf

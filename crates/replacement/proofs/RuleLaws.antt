@@ -7,7 +7,7 @@ use lib.Dec.{eqb, ltb}
 use borrow.Author.Tests.{ltb-true, lt-ltb}
 use Rattle.waymap.specs.Bits.{Bits, bit, word}
 use Rattle.waymap.proofs.Booleans.{cases, not-both}
-use Rattle.waymap.proofs.WordLaws.{bit-word}
+use Rattle.waymap.proofs.WordLaws.{word-ext, bit-word}
 use Rattle.waymap.proofs.WayLaws.{none-at, any-ext, any-none}
 use Rattle.tree.specs.Tree as Tree
 use Rattle.tree.proofs.TreeLaws as TreeLaws
@@ -40,10 +40,21 @@ view-agrees f g x y i e step =
 view-same : (f g : Bits) (i : ℕ) → f i ≡ g i → bit64 (word 64 f) i ≡ bit64 (word 64 g) i
 view-same f g i e = view-word f i ∙ ap (λ (b : Bool). ltb i 64 && b) e ∙ sym (view-word g i)
 
+-- words of which some bits are left have the same left where those bits are viewed alike, and nowhere else
+module _ (own : Bits) (x y : ℕ) where
+  left-same : ((i : ℕ) → own i ≡ true → bit64 x i ≡ bit64 y i) → word 64 (λ (i : ℕ). own i && bit x i) ≡ word 64 (λ (i : ℕ). own i && bit y i)
+  left-same same = word-ext 64 (λ i h. cases (own i) (λ t. rw t (view-bit x y i h (same i t))) (λ t. rw t))
+
+  same-left : word 64 (λ (i : ℕ). own i && bit x i) ≡ word 64 (λ (i : ℕ). own i && bit y i) → (i : ℕ) → own i ≡ true → bit64 x i ≡ bit64 y i
+  unfolding bit64
+  same-left e i t =
+      let left = sym (view-word (λ (j : ℕ). own j && bit x j) i) ∙ ap (λ (n : ℕ). bit64 n i) e ∙ view-word (λ (j : ℕ). own j && bit y j) i in
+      rw t at left
+
 -- ---- Tree-PLRU
 
 pub tree-isolates : (W : ℕ) → W ≤ 64 → Isolates W (tree W)
-unfolding Tree.touch Tree.changes Tree.reset Tree.shares xor
+unfolding Tree.touch Tree.changes Tree.reset Tree.own Tree.shares xor
 tree-isolates W bound = record {
   victim-in = λ map x e. TreeLaws.victim-in W (bit map) (bit x) e;
   victim-own = λ map x y same. TreeLaws.victim-free W (bit map) (λ i h t. view-bit x y i (omega arith) (same i t));
@@ -64,6 +75,8 @@ tree-isolates W bound = record {
       (none-at (W - 1) (λ (i : ℕ). Tree.free W (bit map) i && Tree.free W (bit other) i) c e (TreeLaws.free-node W (bit map) c own)) own;
   shares-empty = λ map other none. any-none (W - 1) (λ i h. rw (TreeLaws.free-empty W (bit map) i none));
   shares-sym = λ map other. any-ext (W - 1) (λ i h. and-comm (Tree.free W (bit map) i) (Tree.free W (bit other) i));
+  part-same = λ map x y same. left-same (Tree.free W (bit map)) x y same;
+  same-part = λ map x y e. same-left (Tree.free W (bit map)) x y e;
 }
 
 -- ---- NRU
@@ -73,7 +86,7 @@ own-agree : (W map x y : ℕ) → W ≤ 64 → SameOwn (nru W) map x y → (w : 
 own-agree W map x y bound same w h t = view-bit x y w (omega arith) (same w t)
 
 pub nru-isolates : (W : ℕ) → W ≤ 64 → Isolates W (nru W)
-unfolding Nru.touch Nru.changes Nru.reset xor
+unfolding Nru.touch Nru.changes Nru.reset Nru.own xor
 nru-isolates W bound = record {
   victim-in = λ map x e. NruLaws.victim-in W (bit map) (bit x) e;
   victim-own = λ map x y same. NruLaws.victim-agrees W (bit map) (own-agree W map x y bound same);
@@ -94,6 +107,8 @@ nru-isolates W bound = record {
   own-apart = λ map other c apart e own. not-both (bit map c) (bit other c) (apart c) own;
   shares-empty = λ map other none. refl;
   shares-sym = λ map other. refl;
+  part-same = λ map x y same. left-same (bit map) x y same;
+  same-part = λ map x y e. same-left (bit map) x y e;
 }
 
 -- ---- every rule

@@ -59,6 +59,11 @@ touchOf W rule word map way =
 unfoldable pub freshOf : ℕ → ℕ → Result
 freshOf W rule = checked (inLimits W rule) true (refusing 0) (record { answer = 0 ∷ []; word = ruleOf rule W .fresh })
 
+-- The own part of a word for a fill map.
+unfoldable pub ownOf : ℕ → ℕ → ℕ → ℕ → Result
+ownOf W rule word map =
+    checked (inLimits W rule) (not (reaches W map)) (refusing word) (record { answer = 0 ∷ []; word = ruleOf rule W .part map word })
+
 -- Whether two domains may have these fill maps: 9 where the rule has them share a node.
 unfoldable pub sharesOf : ℕ → ℕ → ℕ → ℕ → List ℕ
 sharesOf W rule map other =

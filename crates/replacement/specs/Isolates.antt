@@ -40,3 +40,6 @@ pub record Isolates (W : ℕ) (R : Rule) : Type 0 where
   pub shares-empty : (map other : ℕ) → ((w : ℕ) → bit map w ≡ false) → R .shares map other ≡ false
   -- number 9's test does not depend on the order of the two maps
   pub shares-sym : (map other : ℕ) → R .shares map other ≡ R .shares other map
+  -- two words have the same own part where they agree on the own cells, and nowhere else
+  pub part-same : (map x y : ℕ) → SameOwn R map x y → R .part map x ≡ R .part map y
+  pub same-part : (map x y : ℕ) → R .part map x ≡ R .part map y → SameOwn R map x y

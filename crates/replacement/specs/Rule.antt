@@ -24,6 +24,8 @@ pub record Rule : Type 1 where
   -- the cells that a fill map's choices go by, document 01's "own replacement bits" of its domain, and those that its touches may change
   pub own : ℕ → Cell → Bool
   pub writes : ℕ → Cell → Bool
+  -- the own part of a word, as a word: for a fill map and a word
+  pub part : ℕ → ℕ → ℕ
 
 -- Bit i of a 64-bit word.
 unfoldable pub bit64 : ℕ → Bits
@@ -42,6 +44,7 @@ tree W = record {
   view = bit64;
   own = λ map. Tree.free W (bit map);
   writes = λ map. Tree.free W (bit map);
+  part = λ map x. word 64 (Tree.own W (bit map) (bit x));
 }
 
 abbrev pub nru : ℕ → Rule
@@ -56,6 +59,7 @@ nru W = record {
   view = bit64;
   own = λ map. bit map;
   writes = λ map. bit map;
+  part = λ map x. word 64 (Nru.own (bit map) (bit x));
 }
 
 -- "Rule: 0 Tree-PLRU, 1 NRU." A number outside the limits is refused before this is asked.

@@ -1,7 +1,7 @@
 // The replacement rules, Tree-PLRU and NRU, without any cache above them: a word and a map give a victim and the word before its touch;
 // a word, a map and a touched way give a new word.
 ghost use mathlib.Core.Path.{_≡_};
-ghost use Rattle.replacement.specs.Calls.{answerOf, result, inLimits, victimOf, touchOf, freshOf, sharesOf};
+ghost use Rattle.replacement.specs.Calls.{answerOf, result, inLimits, victimOf, touchOf, freshOf, ownOf, sharesOf};
 ghost use Rattle.replacement.specs.Change.{changeOf, changeBy};
 
 // The answer of a call: a way, or that the call is done, or why it is refused.
@@ -158,6 +158,34 @@ pub fn fresh(ways: usize, rule: usize) -> Outcome
     Outcome {
         reply: Reply::Done,
         word: nru::fresh(ways),
+    }
+}
+
+// The own part of a word for a fill map: the bits that the map's choices go by, and zero elsewhere.
+pub fn own(ways: usize, rule: usize, word: u64, map: u16) -> Outcome
+    ensures { λ r. ⌜ result r ≡ ownOf ways rule word map ⌝ }
+{
+    if in_limits(ways, rule) {} else {
+        return Outcome {
+            reply: Reply::OutsideLimits,
+            word,
+        };
+    }
+    if waymap::fits(map, ways) {} else {
+        return Outcome {
+            reply: Reply::OutOfReach,
+            word,
+        };
+    }
+    if rule == 0 {
+        return Outcome {
+            reply: Reply::Done,
+            word: tree::own(ways, word, map),
+        };
+    }
+    Outcome {
+        reply: Reply::Done,
+        word: nru::own(word, map),
     }
 }
 

@@ -2,7 +2,7 @@
 // lowest byte first. A block for each: the hit map and the fill map of the sixteen domains (2 bytes each), the set of the step's argument
 // (2), the number of rows that follow (2), and the rows: set (2), valid map (2), dirty map (2), replacement word (8), tags (8 each). An
 // access or a flush has the row of its set, a policy change has all rows, and so has the block before the first step; other steps have
-// none. A refused file gives nothing.
+// none. A refused file gives nothing. A failed read or write is told on standard error.
 use domains::Domains;
 use geometry::Geometry;
 use libc::STDOUT_FILENO;
@@ -170,7 +170,7 @@ fn span_of(file: &[u8], n: u32, i: u32, sets: usize) -> Span
     }
 }
 
-// Writes a block.
+// Writes a block, and answers whether all of it was written.
 fn show(
     ways: usize,
     domains: Domains,
@@ -180,7 +180,7 @@ fn show(
     dirty: &[u16],
     words: &[u64],
     out: &mut [u8],
-)
+) -> bool
     requires { ⌜ Rows (span .to) ways (length (now tags)) (length (now valid)) (length (now dirty)) (length (now words)) ⌝ }
     requires { ⌜ span .from ≤ span .to ⌝ }
     requires { ⌜ span .to ≤ 256 ⌝ }
@@ -192,10 +192,24 @@ fn show(
     put_maps(domains, out);
     put(shorts(span.set, (to - from) as u16, 0), 4, out, 64);
     let n = put_rows(ways, from, to, tags, valid, dirty, words, out, 68);
-    io::write_all(STDOUT_FILENO, &out[..n]);
+    io::write_all(STDOUT_FILENO, &out[..n])
 }
 
-// Writes block i of a file of n steps, and takes step i, if there is one. The domains after it are answered.
+// The domains after a step, and whether all blocks before it were written.
+pub struct Shown {
+    pub domains: Domains,
+    pub written: bool,
+}
+
+// Whether both hold.
+fn both(first: bool, second: bool) -> bool {
+    if first {
+        return second;
+    }
+    false
+}
+
+// Writes block i of a file of n steps, and takes step i, if there is one.
 fn block(
     g: Geometry,
     file: &[u8],
@@ -205,17 +219,19 @@ fn block(
     valid: &mut [u16],
     dirty: &mut [u16],
     words: &mut [u64],
-    domains: Domains,
+    before: Shown,
     out: &mut [u8],
-) -> Domains
+) -> Shown
     requires { ⌜ Small (g .sets) (g .ways) ⌝ }
     requires { ⌜ Rows (g .sets) (g .ways) (length (now tags)) (length (now valid)) (length (now dirty)) (length (now words)) ⌝ }
     requires { ⌜ 36420 ≤ length (now out) ⌝ }
 {
     let span = span_of(file, n, i, g.sets);
-    show(g.ways, domains, span, tags, valid, dirty, words, out);
+    let domains = before.domains;
+    let shown = show(g.ways, domains, span, tags, valid, dirty, words, out);
+    let written = both(before.written, shown);
     if i == n {
-        return domains;
+        return Shown { domains, written };
     }
     let command = tracefile::command_at(file, n, i);
     let stepped = cache::step(
@@ -229,10 +245,14 @@ fn block(
         command.kind,
         command.argument,
     );
-    stepped.domains
+    let after = stepped.domains;
+    Shown {
+        domains: after,
+        written,
+    }
 }
 
-// Writes the blocks of a file that is not refused, on tables of its geometry.
+// Writes the blocks of a file that is not refused, on tables of its geometry, and answers whether all were written.
 fn run(
     g: Geometry,
     file: &[u8],
@@ -241,35 +261,28 @@ fn run(
     dirty: &mut [u16],
     words: &mut [u64],
     out: &mut [u8],
-)
+) -> bool
     requires { ⌜ Small (g .sets) (g .ways) ⌝ }
     requires { ⌜ Rows (g .sets) (g .ways) (length (now tags)) (length (now valid)) (length (now dirty)) (length (now words)) ⌝ }
     requires { ⌜ 36420 ≤ length (now out) ⌝ }
 {
     fresh::fresh_tables(g, tags, valid, dirty, words);
-    let mut domains = fresh::fresh_domains();
+    let mut shown = Shown {
+        domains: fresh::fresh_domains(),
+        written: true,
+    };
     let n = tracefile::steps(file);
     let last = n as usize;
     let mut i = 0;
     while i <= last {
-        domains = block(
-            g,
-            file,
-            n,
-            i as u32,
-            tags,
-            valid,
-            dirty,
-            words,
-            domains,
-            out,
-        );
+        shown = block(g, file, n, i as u32, tags, valid, dirty, words, shown, out);
         i += 1;
     }
+    shown.written
 }
 
 // Lends the front of the tables, and the output.
-fn lend(g: Geometry, cells: usize, file: &[u8])
+fn lend(g: Geometry, cells: usize, file: &[u8]) -> bool
     requires { ⌜ Small (g .sets) (g .ways) ⌝ }
     requires { ⌜ cells ≡ g .sets * g .ways ⌝ }
     requires { ⌜ cells ≤ 4096 ⌝ }
@@ -288,31 +301,39 @@ fn lend(g: Geometry, cells: usize, file: &[u8])
         &mut dirty[0..sets],
         &mut words[0..sets],
         &mut out,
-    );
+    )
 }
 
-// Writes the blocks of a file; a geometry beyond the limits has none.
-fn show_file(file: &[u8]) {
+// Writes the blocks of a file, and answers whether all were written; a refused file has none.
+fn show_file(file: &[u8]) -> bool {
     if tracefile::refusal(file) != 0 {
-        return;
+        return true;
     }
     let g = tracefile::geometry(file);
     let sets = g.sets;
     let ways = g.ways;
     if sets == 0 {
-        return;
+        return false;
     }
     if 256 < sets {
-        return;
+        return false;
     }
     if 16 < ways {
-        return;
+        return false;
     }
-    lend(g, start_of(sets, ways), file);
+    lend(g, start_of(sets, ways), file)
 }
 
 fn main() {
     let mut file = [0u8; 40969];
-    let count = input::read_file(&mut file);
-    show_file(&file[..count]);
+    let got = streams::read_file(&mut file);
+    let count = got.count;
+    if got.whole {
+        if show_file(&file[..count]) {
+            return;
+        }
+        streams::tell(b"stepper: standard output could not be written\n");
+        return;
+    }
+    streams::tell(b"stepper: standard input could not be read to its end\n");
 }

@@ -5,7 +5,7 @@ use Prim.Native.Nat.{ℕ}
 use lib.Dec.{ltb}
 use Rattle.waymap.specs.Bits.{bit, word}
 use Rattle.waymap.specs.Ways.{takes}
-use Rattle.tree.specs.Tree.{victim, touch, changes, shares}
+use Rattle.tree.specs.Tree.{victim, touch, changes, own, shares}
 
 -- The victim of a word and a fill map.
 unfoldable pub victimOf : ℕ → ℕ → ℕ → ℕ
@@ -21,6 +21,10 @@ changeOf W old new = cond (takes W old && takes W new) (word 64 (changes W (bit 
 
 unfoldable pub resetOf : ℕ → ℕ → ℕ
 resetOf x nodes = word 64 (λ i. cond (bit nodes i) false (bit x i))
+
+-- The own part of a word; none outside the limits.
+unfoldable pub ownOf : ℕ → ℕ → ℕ → ℕ
+ownOf W x map = cond (takes W map) (word 64 (own W (bit map) (bit x))) 0
 
 -- Whether a node is free for both maps.
 unfoldable pub sharesOf : ℕ → ℕ → ℕ → Bool

@@ -89,6 +89,10 @@ changes W old new i = xor (free W old i) (free W new i)
 unfoldable pub reset : ℕ → Bits → Bits → Bits → Bits
 reset W old new b i = cond (changes W old new i) false (b i)
 
+-- "A domain's own replacement bits are its free nodes": those bits of a word, and zero elsewhere.
+unfoldable pub own : ℕ → Bits → Bits → Bits
+own W m b i = free W m i && b i
+
 -- "a node free for it and for another domain"
 unfoldable pub shares : ℕ → Bits → Bits → Bool
 shares W m n = any (W - 1) (λ i. free W m i && free W n i)

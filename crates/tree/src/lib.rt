@@ -5,7 +5,7 @@ mod path;
 mod walk;
 
 ghost use mathlib.Core.Path.{_≡_};
-ghost use Rattle.tree.specs.Calls.{victimOf, touchOf, changeOf, resetOf, sharesOf};
+ghost use Rattle.tree.specs.Calls.{victimOf, touchOf, changeOf, resetOf, ownOf, sharesOf};
 
 // The victim, by the masked form.
 pub fn victim(ways: usize, word: u64, map: u16) -> usize
@@ -52,6 +52,17 @@ pub fn reset(word: u64, nodes: u64) -> u64
     ensures { λ r. ⌜ r ≡ resetOf word nodes ⌝ }
 {
     word & !nodes
+}
+
+// The own part of a word: its bits at the map's free nodes.
+pub fn own(ways: usize, word: u64, map: u16) -> u64
+    ensures { λ r. ⌜ r ≡ ownOf ways word map ⌝ }
+{
+    if waymap::takes(ways, map) {} else {
+        return 0;
+    }
+    let nodes = nodes::nodes_of(ways, map);
+    word & nodes.free
 }
 
 // Whether a node is free for both maps.

@@ -30,6 +30,9 @@ shared-slice-read-show-step-2 c = omega (arith, (c .before .before .before .loop
 show-step-requires : tie.Need-show-step-requires Inv-loop μ-loop
 show-step-requires c κs = search needs
 
+returns : tie.Need-returns Inv-loop μ-loop
+returns c = search needs
+
 add-i : tie.Need-add-i Inv-loop μ-loop
 add-i c = omega arith
 
@@ -37,10 +40,10 @@ loop-less : tie.Need-loop-less Inv-loop μ-loop
 loop-less c = omega arith
 
 loop-again : tie.Need-loop-again Inv-loop μ-loop
-loop-again c = (c .before .before .before .before .loop .inv)
+loop-again c = (c .before .before .before .before .before .loop .inv)
 
-returns : tie.Need-returns Inv-loop μ-loop
-returns c = search needs
+returns-2 : tie.Need-returns-2 Inv-loop μ-loop
+returns-2 c = search needs
 
 pub show-spec : {M : Type 1} → statement M
 show-spec =
@@ -54,7 +57,8 @@ show-spec =
     mul-show-step-2
     shared-slice-read-show-step-2
     show-step-requires
+    returns
     add-i
     loop-less
     loop-again
-    returns)
+    returns-2)

@@ -11,12 +11,15 @@ span-of-requires c κs = search needs
 
 show-requires : tie.Need-show-requires
 show-requires c κs =
-    let spanned = c .before .before .before .before .before in
+    let spanned = c .before .before .before .before .before .before in
     let entry = spanned .before .before .before .before .before .before .before in
     let span = spanned .span-of .ensures in (
       rows-below (span .1) (entry .pre .1 .0),
       (span .0, (le-trans (span .1) (entry .pre .0 .few-sets), (entry .pre .0 .few-ways, entry .pre .1 .1))),
     )
+
+both-requires : tie.Need-both-requires
+both-requires c κs = search needs
 
 same-length : tie.Need-same-length
 same-length c = refl
@@ -31,7 +34,7 @@ same-length-4 : tie.Need-same-length-4
 same-length-4 c = refl
 
 same-length-5 : tie.Need-same-length-5
-same-length-5 c = c .before .before .before .show .kept .1 .1 .1 .1 .1 .1 .1 .0
+same-length-5 c = c .before .before .before .before .show .kept .1 .1 .1 .1 .1 .1 .1 .0
 
 returns : tie.Need-returns
 returns c = search needs
@@ -60,7 +63,7 @@ same-length-9 c = c .before .before .before .before .before .before .before .bef
 same-length-10 : tie.Need-same-length-10
 same-length-10 c =
     let stepped = c .before .before .before .before .before .before .before .before .before in
-    stepped .before .before .before .before .before .before .before .before .before .before .show .kept .1 .1 .1 .1 .1 .1 .1 .0
+    stepped .before .before .before .before .before .before .before .before .before .before .before .show .kept .1 .1 .1 .1 .1 .1 .1 .0
 
 returns-2 : tie.Need-returns-2
 returns-2 c = search needs
@@ -71,6 +74,7 @@ block-spec =
     (tie.spec
     span-of-requires
     show-requires
+    both-requires
     same-length
     same-length-2
     same-length-3

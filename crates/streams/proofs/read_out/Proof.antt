@@ -1,7 +1,7 @@
--- `input::read_out` meets its contract.
+-- `streams::read_out` meets its contract.
 use native.Mathlib.Omega.{arith}
-use Rattle.input.proofs.read_out.Statement.{statement}
-use Rattle.input.proofs.read_out.Tie as tie
+use Rattle.streams.proofs.read_out.Statement.{statement}
+use Rattle.streams.proofs.read_out.Tie as tie
 
 abbrev Inv-loop : tie.InvT-loop
 Inv-loop turns₀ turns = Unit {0}
@@ -15,6 +15,9 @@ loop-holds c = tt
 read-on-requires : tie.Need-read-on-requires Inv-loop μ-loop
 read-on-requires c κs = tt
 
+returns : tie.Need-returns Inv-loop μ-loop
+returns c = tt
+
 sub-turns : tie.Need-sub-turns Inv-loop μ-loop
 sub-turns c = omega arith
 
@@ -24,22 +27,8 @@ loop-less c = omega arith
 loop-again : tie.Need-loop-again Inv-loop μ-loop
 loop-again c = tt
 
-returns : tie.Need-returns Inv-loop μ-loop
-returns c = tt
-
 returns-2 : tie.Need-returns-2 Inv-loop μ-loop
 returns-2 c = tt
 
 pub read-out-spec : {M : Type 1} → statement M
-read-out-spec =
-    tie.close
-    (tie.spec
-    Inv-loop
-    μ-loop
-    loop-holds
-    read-on-requires
-    sub-turns
-    loop-less
-    loop-again
-    returns
-    returns-2)
+read-out-spec = tie.close (tie.spec Inv-loop μ-loop loop-holds read-on-requires returns sub-turns loop-less loop-again returns-2)
