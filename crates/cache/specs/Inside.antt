@@ -53,9 +53,7 @@ stores Flush = false
 
 -- What an access or a flush does to a row.
 unfoldable pub workOf : LineUse → ℕ → Maps → ℕ → Row → Effect
-workOf Load rule p tag r = accessOf rule p tag false r
-workOf Store rule p tag r = accessOf rule p tag true r
-workOf Flush rule p tag r = flushOf p tag r
+workOf u rule p tag r = cond (flushes u) (flushOf p tag r) (accessOf rule p tag (stores u) r)
 
 -- An answer with the tables that the work leaves.
 pub record Work : Type 0 where

@@ -14,17 +14,37 @@ ghost use Rattle.row.specs.Calls.{rowOf, result, told};
 ghost use Rattle.sweep.specs.Sweep.{sweepBy};
 ghost use Rattle.steps.specs.Step.{tablesOf};
 ghost use Rattle.steps.specs.Inside.{Shaped};
-ghost use Rattle.cache.specs.Inside.{workOf, RowWork, onRow, workAt, AllSwept};
+ghost use Rattle.cache.specs.Inside.{flushes as flushesLine, stores as storesLine, workOf, RowWork, onRow, workAt, AllSwept};
+
+// Whether a line is flushed, and whether it is stored to.
+fn flushes(usage: LineUse) -> bool
+    ensures { λ r. ⌜ r ≡ flushesLine usage ⌝ }
+{
+    match usage {
+        LineUse::Load => false,
+        LineUse::Store => false,
+        LineUse::Flush => true,
+    }
+}
+
+fn stores(usage: LineUse) -> bool
+    ensures { λ r. ⌜ r ≡ storesLine usage ⌝ }
+{
+    match usage {
+        LineUse::Load => false,
+        LineUse::Store => true,
+        LineUse::Flush => false,
+    }
+}
 
 // An access or a flush on a row.
 fn on_row(tags: &mut [u64], lines: Lines, rule: usize, maps: Maps, usage: LineUse, tag: u64) -> Done
     ensures { λ r. ⌜ told (result r (now (tags .exit))) ≡ told (workOf usage rule maps tag (rowOf (now (tags .entry)) lines)) ⌝ }
 {
-    match usage {
-        LineUse::Load => row::access(tags, lines, rule, maps, tag, false),
-        LineUse::Store => row::access(tags, lines, rule, maps, tag, true),
-        LineUse::Flush => row::flush(tags, lines, maps, tag),
+    if flushes(usage) {
+        return row::flush(tags, lines, maps, tag);
     }
+    row::access(tags, lines, rule, maps, tag, stores(usage))
 }
 
 // An access or a flush in the tables.

@@ -1,16 +1,13 @@
 -- What is asked for, by its place among the code's kinds; and that document 01's kinds tell the code's apart.
-use mathlib.Core.Path.{_≡_, refl, ap}
+use mathlib.Core.Path.{_≡_, refl}
 use mathlib.Core.Bool.{true, false}
-use Prim.Native.Nat.{ℕ, zero, suc}
 use native.Mathlib.Omega.{arith}
 use denote.Enum.Declared.{tagOf}
 use Rattle.command.specs.Kind.{Kind, access, flush, policy, unknown, kindIs}
 use Rattle.command.specs.declared.Asked.{Asked}
 use Rattle.command.specs.declared.Asked.the-variants.{Line, Policy, Unknown}
-use Rattle.command.specs.declared.LineUse.{LineUse}
 use Rattle.command.specs.declared.LineUse.the-variants.{Load, Store, Flush}
 use Rattle.command.proofs.Asked as AskedType
-use Rattle.command.proofs.LineUse as UseType
 
 pub asked-policy : (q : Asked) → tagOf AskedType.the-type q ≡ 1 → policy ≡ kindIs q
 asked-policy (Line u) e = absurd (omega arith)
@@ -21,17 +18,6 @@ pub asked-unknown : (q : Asked) → tagOf AskedType.the-type q ≡ 2 → unknown
 asked-unknown (Line u) e = absurd (omega arith)
 asked-unknown Policy e = absurd (omega arith)
 asked-unknown Unknown e = refl
-
--- What is done with a line, by its place among the three.
-abbrev pub useAt : ℕ → LineUse
-useAt zero = Load
-useAt (suc zero) = Store
-useAt (suc (suc n)) = Flush
-
-pub use-is : (u : LineUse) {n : ℕ} → tagOf UseType.the-type u ≡ n → u ≡ useAt n
-use-is Load e = ap useAt e
-use-is Store e = ap useAt e
-use-is Flush e = ap useAt e
 
 -- What a kind asks for.
 askedOf : Kind → Asked
