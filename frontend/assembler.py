@@ -2,12 +2,12 @@
 from __future__ import annotations
 
 from frontend.source import Line, Source, Token, close_to, unknown
-from frontend.stepline import is_kind, read_step
+from frontend.stepline import is_kind, read_step, repeated
 from frontend.tracefile import LARGEST_BYTE, LARGEST_SETS, MAX_STEPS, RULES, Step, Trace
 
 _DIGITS = "0123456789"
 _HEADERS = {"sets": (LARGEST_SETS, "sets 64"), "ways": (LARGEST_BYTE, "ways 8"), "rule": (LARGEST_BYTE, "rule tree")}
-_RULE_NUMBERS = {"tree-plru": 0, **{name: number for number, name in RULES.items()}}
+_RULE_NUMBERS = {**{name: number for number, name in RULES.items()}, "tree-plru": 0}
 _RULES_ARE = "Rules are tree (or tree-plru), nru, or a number"
 _LINES_ARE = "A line is 'sets N', 'ways N', 'rule NAME' or a step, 'DOMAIN KIND ARGUMENT'"
 
@@ -33,9 +33,10 @@ class _Assembler:
         self.source.refuse_binary()
         for number in range(1, len(self.source.lines) + 1):
             line = Line(self.source, number)
-            if line.tokens and not self._read(line):
+            if line.tokens and not self._read(line) or self.source.is_hopeless():
                 break
-        self._check_header()
+        if not self.source.is_hopeless():  # else a header line may stand in what was not read
+            self._check_header()
         self.source.fail()
         sets, ways, rule = (self.header[word] for word in _HEADERS)
         return Trace(sets, ways, rule, tuple(self.steps))
@@ -78,11 +79,12 @@ class _Assembler:
         word = first.text.partition("=")[0]
         self.misspelt.add(close_to(word, _HEADERS) or "")
         if is_kind(first.text):
-            line.fault(first, f"the domain is missing; a step starts with it, as in '0 {first.text} ...'")
+            kind = repeated(first.text, "kind=N")
+            line.fault(first, f"the domain is missing; a step starts with it, as in '0 {kind} ...'")
         elif word in _HEADERS:
             line.fault(first, f"a header line has no '='; write it as in '{_HEADERS[word][1]}'")
         else:
-            line.fault(first, unknown("word", first.text, _HEADERS, _LINES_ARE))
+            line.fault(first, unknown("word", first.text, close_to(word, _HEADERS), _LINES_ARE))
 
     def _check_header(self) -> None:
         """Note each header line that is missing, at the first step or at the end."""
@@ -110,5 +112,18 @@ def _header_value(line: Line, word: str) -> int | None:
     if token.text[0] in _DIGITS:
         return line.read_number(token, 0, largest, "the number of a rule")
     if token.text not in _RULE_NUMBERS:
-        line.fault(token, unknown("rule", token.text, _RULE_NUMBERS, _RULES_ARE))
+        line.fault(token, unknown("rule", token.text, _rule_meant(token.text), _RULES_ARE))
     return _RULE_NUMBERS.get(token.text)
+
+
+def _rule_meant(word: str) -> str | None:
+    """Give the rule whose name a word begins, or is but for case and dashes.
+
+    Likeness is not enough: LRU, PLRU and NRU are three rules, and whoever wants one is not helped by another's name."""
+    letters = _letters(word)
+    return next((name for name in _RULE_NUMBERS if len(letters) > 1 and _letters(name).startswith(letters)), None)
+
+
+def _letters(word: str) -> str:
+    """Give the letters of a word in lower case."""
+    return "".join(filter(str.isalpha, word.lower()))

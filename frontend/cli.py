@@ -2,56 +2,94 @@
 from __future__ import annotations
 
 import argparse
+import os
 import sys
-from typing import TextIO
+import traceback
+from pathlib import Path
+from typing import NoReturn, TextIO
 
-from frontend import commands, files, helptext
-from frontend.errors import UserError
+from frontend import commands, files, helptext, streams
+from frontend.errors import DONE, FAULT, INTERRUPTED, MACHINE_FAILED, BadInput, Failure, MachineFailure, reason
+from frontend.quote import cut
 
-_BAD_INPUT = 2
-_INTERRUPTED = 130
-_BROKEN_PIPE = 141  # as a shell reports a program that ended by SIGPIPE
+DEBUG = "DIPPERLOCK_DEBUG"
+_MOST = 1000  # characters of a message about the command line, or about a fault of ours
+
+
+class UsageError(BadInput):
+    """A command line that cannot be read, told with its usage."""
+
+    def report(self) -> str:
+        """Give the text as it is."""
+        return str(self)
 
 
 def main(arguments: list[str]) -> int:
     """Run a command line and give its exit status; tell every error without a traceback."""
     try:
         return _run(arguments)
-    except UserError as error:
-        print(error.report(), file=sys.stderr)
-        return _BAD_INPUT
-    except BrokenPipeError:
-        files.abandon_output()
-        return _BROKEN_PIPE
+    except Failure as failure:
+        return _end(failure.report(), failure.status)
     except OSError as error:
-        print(f"dipperlock: {error}", file=sys.stderr)
-        return _BAD_INPUT
+        return _end(f"dipperlock: {reason(error)}", MACHINE_FAILED)
+    except MemoryError:
+        return _end("dipperlock: there is not enough memory", MACHINE_FAILED)
     except KeyboardInterrupt:
-        return _INTERRUPTED
+        return INTERRUPTED
+    except Exception as error:  # whatever it is, it is ours, and must not look like a difference that was found
+        return _end(_fault(error), FAULT)
+
+
+def _end(message: str, status: int) -> int:
+    """Tell why a command line failed, if that can be told, and give its status, which says it too."""
+    try:
+        if message:
+            streams.tell(message)
+    except MachineFailure:
+        pass
+    return status
+
+
+def _fault(error: Exception) -> str:
+    """Say in a line that the front end itself is at fault, and where; with a traceback where that is asked for."""
+    if os.environ.get(DEBUG):
+        return traceback.format_exc().rstrip("\n")
+    place = traceback.extract_tb(error.__traceback__)[-1]
+    what = cut(" ".join(f"{type(error).__name__}: {error}".split()), _MOST)
+    where = f"{Path(place.filename).name}, line {place.lineno}"
+    return f"dipperlock: a fault in the front end itself, not in what it was given ({what}; {where}); {DEBUG}=1 shows more"
 
 
 def _run(arguments: list[str]) -> int:
     """Read the command line and run its command."""
     parser = _parser()
     if not arguments:
-        parser.print_help(sys.stderr)
-        return _BAD_INPUT
+        raise UsageError(parser.format_help().rstrip("\n"))
     try:
         args = parser.parse_args(arguments)
     except SystemExit as done:
-        return int(done.code or 0)
+        return int(done.code or DONE)
     return args.run(args)
 
 
 class _Parser(argparse.ArgumentParser):
-    """A parser whose help is written as every other output is, so that a failure to write it is told."""
+    """A parser whose help and errors are written as all else is, so that a failure to write them is told."""
 
     def print_help(self, file: TextIO | None = None) -> None:
-        """Write the help to a stream, or to standard output."""
-        if file is None:
-            files.write_text(self.format_help())
-        else:
-            super().print_help(file)
+        """Write the help to standard output."""
+        streams.write_out_text(self.format_help())
+
+    def error(self, message: str) -> NoReturn:
+        """Refuse the command line."""
+        raise UsageError(f"{self.format_usage()}{self.prog}: error: {cut(message, _MOST)}")
+
+
+class _Version(argparse.Action):
+    """The option that says which versions there are, and ends."""
+
+    def __call__(self, parser: argparse.ArgumentParser, *_: object) -> NoReturn:
+        """Say it."""
+        sys.exit(commands.tell_version())
 
 
 def _parser() -> argparse.ArgumentParser:
@@ -62,6 +100,8 @@ def _parser() -> argparse.ArgumentParser:
         epilog=f"{helptext.examples(*helptext.EXAMPLES)}\n\n{helptext.STATUS}",
         formatter_class=argparse.RawDescriptionHelpFormatter,
     )
+    what = "say which version this is, of the toolchain and the programs too, and whether they are up to date"
+    parser.add_argument("--version", action=_Version, nargs=0, help=what)
     subs = parser.add_subparsers(title="commands", metavar="COMMAND", required=True)
     _add_list(subs)
     _add_assemble(subs)
@@ -99,7 +139,7 @@ def _add_show(subs: argparse._SubParsersAction) -> None:
 def _add_isolate(subs: argparse._SubParsersAction) -> None:
     """Add the command that compares a run with its struck-out run."""
     sub = _command(subs, "isolate", "compare a run with its struck-out run", helptext.ISOLATE)
-    sub.add_argument("file", metavar="FILE", help="a trace file, or a trace text named .txt")
+    sub.add_argument("file", metavar="FILE", help="a trace file or a trace text; - is standard input")
     sub.add_argument("domain", metavar="DOMAIN", type=_domain, help="the chosen domain, 0 to 15")
     sub.set_defaults(run=commands.isolate_domain)
 
@@ -121,7 +161,7 @@ def _command(subs: argparse._SubParsersAction, name: str, short: str, long: str)
 
 def _add_trace(sub: argparse.ArgumentParser) -> None:
     """Add the argument that names a trace, standard input where it is absent."""
-    what = "a trace file, or a trace text named .txt (default: standard input)"
+    what = "a trace file or a trace text (default, and -: standard input)"
     sub.add_argument("file", metavar="FILE", nargs="?", default=files.STREAM, help=what)
 
 

@@ -5,7 +5,7 @@ from collections.abc import Callable
 from dataclasses import dataclass
 
 from frontend import maps, stepper, words
-from frontend.errors import UserError
+from frontend.errors import MachineFailure
 from frontend.listing import Answer, Listing
 from frontend.run import Run
 from frontend.tracefile import POLICY, Step
@@ -46,17 +46,17 @@ class Comparison:
     others: list[Pair]
     endings: list[Ending]
 
-    def first_difference(self) -> Compared | None:
-        """Give the step that differs first in the whole run, or else what differs at the end, or None."""
+    def differences(self) -> list[Compared]:
+        """List what differs: steps in the order of the whole run, then what stands at the end."""
         pairs = sorted(self.own + self.others, key=lambda pair: pair.places)
-        return next((thing for thing in (*pairs, *self.endings) if not thing.same), None)
+        return [thing for thing in (*pairs, *self.endings) if not thing.same]
 
 
 def compare(whole: Run, struck: Run, domain: int) -> Comparison:
     """Compare what a domain sees in the whole run and in its struck-out run."""
     own = _pairs(whole, struck, lambda step: step.domain == domain, str)
     others = _pairs(whole, struck, lambda step: step.domain != domain and step.kind == POLICY, _verdict)
-    return Comparison(own, others, _endings(whole, struck, domain))
+    return Comparison(own, others, [ending for part in _AT_THE_END for ending in part(whole, struck, domain)])
 
 
 def _verdict(answer: Answer) -> str:
@@ -69,23 +69,17 @@ def _pairs(whole: Run, struck: Run, chosen: Callable[[Step], bool], view: Callab
     places = [[i for i, step in enumerate(run.trace.steps) if chosen(step)] for run in (whole, struck)]
     steps = [[run.trace.steps[i] for i in found] for run, found in zip((whole, struck), places)]
     if steps[0] != steps[1]:
-        raise UserError("the purger does not keep the steps that the struck-out list keeps")
+        raise MachineFailure("the struck-out run does not have the steps that are compared")
     return [
         Pair((view(whole.listing.answers[i]), view(struck.listing.answers[j])), step, (i, j))
         for step, i, j in zip(steps[0], *places)
     ]
 
 
-def _endings(whole: Run, struck: Run, domain: int) -> list[Ending]:
-    """List what the domain has at the end of both runs."""
+def _counts(whole: Run, struck: Run, domain: int) -> list[Ending]:
+    """Compare the domain's line at the end of the listing, which has its counts."""
     lines = [_domain_line(run.listing, domain) for run in (whole, struck)]
-    last = whole.blocks[-1], struck.blocks[-1]
-    return [
-        Ending((lines[0], lines[1]), "line of the listing"),
-        Ending((maps.write(last[0].hit[domain]), maps.write(last[1].hit[domain])), "hit map"),
-        Ending((maps.write(last[0].fill[domain]), maps.write(last[1].fill[domain])), "fill map"),
-        _line_ending(whole, struck, last[0].hit[domain]),
-    ]
+    return [Ending((lines[0], lines[1]), "line of the listing")]
 
 
 def _domain_line(listing: Listing, domain: int) -> str:
@@ -94,14 +88,27 @@ def _domain_line(listing: Listing, domain: int) -> str:
     return "none" if counts is None else " ".join(map(str, ("domain", domain, *counts)))
 
 
-def _line_ending(whole: Run, struck: Run, hit: int) -> Ending:
-    """Compare the lines in the ways of a hit map, in every set."""
+def _maps(whole: Run, struck: Run, domain: int) -> list[Ending]:
+    """Compare the domain's two maps."""
+    last = whole.blocks[-1], struck.blocks[-1]
+    return [
+        Ending((maps.write(last[0].hit[domain]), maps.write(last[1].hit[domain])), "hit map"),
+        Ending((maps.write(last[0].fill[domain]), maps.write(last[1].fill[domain])), "fill map"),
+    ]
+
+
+def _lines(whole: Run, struck: Run, domain: int) -> list[Ending]:
+    """Compare the lines in the ways of the domain's hit map, in every set: each that differs, or how many there are."""
     left, right = (stepper.rows_at_end(run.blocks) for run in (whole, struck))
-    valid = 0
-    for number in sorted(left):
-        for way in maps.members(hit):
-            seen = words.line(left[number], way), words.line(right[number], way)
-            if seen[0] != seen[1]:
-                return Ending(seen, f"set {number} way {way}")
-            valid += left[number].valid >> way & 1
-    return Ending((f"{valid} valid", f"{valid} valid"), "lines in its ways")
+    ways = maps.members(whole.blocks[-1].hit[domain])
+    endings = [
+        Ending((words.line(left[number], way), words.line(right[number], way)), f"set {number} way {way}")
+        for number in sorted(left)
+        for way in ways
+    ]
+    different = [ending for ending in endings if not ending.same]
+    valid = sum(left[number].valid >> way & 1 for number in left for way in ways)
+    return different or [Ending((f"{valid} valid", f"{valid} valid"), "lines in its ways")]
+
+
+_AT_THE_END = (_counts, _maps, _lines)  # whatever else is compared at the end is one more function here

@@ -107,7 +107,7 @@ class Explainer:
             return text
         one, more = _ONES[self._trace.rule]
         where = one if len(maps.members(row.word)) == 1 else more
-        return f"{text} ({where} {maps.write(row.word)})"
+        return f"{text} ({where} {maps.places(row.word)})"
 
 
 def _maps(before: Block, after: Block) -> Iterator[str]:

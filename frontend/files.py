@@ -1,75 +1,116 @@
-"""Reading and writing files and the standard streams, with errors in words."""
+"""Reading and writing files and the standard streams by name, with errors in words."""
 from __future__ import annotations
 
+import contextlib
+import errno
 import os
-import sys
+import stat
+from collections.abc import Iterator
+from typing import BinaryIO
 
-from frontend import assembler, tracefile
-from frontend.errors import UserError
+from frontend import assembler, source, streams, tracefile
+from frontend.errors import BadInput, MachineFailure, reason
+from frontend.quote import named
+from frontend.replace import replace_file
 
 STREAM = "-"
+LARGEST_TEXT = 1024 * tracefile.MAX_STEPS  # bytes; that is ten times the longest line that `show` writes, for each step
+_STANDARD_INPUT = 0
+_STANDARD_OUTPUT = 1
+_NOT_BESIDE = (errno.EACCES, errno.EPERM, errno.EBUSY)  # what a folder says that takes no new file, or does not let the old one go
 
 
 def title(name: str) -> str:
     """Name a file in a message."""
-    return "standard input" if name == STREAM else name
+    return "standard input" if name == STREAM else named(name)
 
 
-def read(name: str) -> bytes:
-    """Read a whole file, or standard input for `-`."""
-    try:
-        if name != STREAM:
-            with open(name, "rb") as file:
-                return file.read()
-        if sys.stdin is None:
-            raise UserError("standard input is closed; name a file")
-        if sys.stdin.isatty():
-            print("dipperlock: reading from standard input; end it with Ctrl-D", file=sys.stderr)
-        return sys.stdin.buffer.read()
-    except OSError as error:
-        raise UserError(f"cannot read {title(name)}: {error.strerror}") from error
+def read_file(name: str) -> bytes:
+    """Read a trace file, or standard input for `-`; of one that is too long, one byte too many."""
+    with _opened(name) as stream:
+        return streams.read_up_to(stream, tracefile.LARGEST_FILE + 1)
+
+
+def read_text(name: str) -> tracefile.Trace:
+    """Read a trace text, or standard input for `-`, and assemble it."""
+    with _opened(name) as stream:
+        data = streams.read_up_to(stream, LARGEST_TEXT + 1)
+    return _assemble(name, data)
 
 
 def read_trace(name: str) -> bytes:
-    """Read a trace file; a file whose name ends in `.txt` is a trace text and is assembled."""
-    data = read(name)
-    return tracefile.encode(assembler.assemble(name, data)) if name.endswith(".txt") else data
+    """Read a trace file, or a trace text as the trace file that it assembles to.
+
+    A text is known by its name or by what it holds. The latter is never in doubt: a number of sets within the limits has a
+    byte 0, so that no trace file which the cache takes could be read as a text."""
+    by_name = name.lower().endswith(".txt")
+    with _opened(name) as stream:
+        data = streams.read_up_to(stream, tracefile.LARGEST_FILE + 1)
+        if not by_name and not source.is_text(data):
+            return data
+        if len(data) > tracefile.LARGEST_FILE:  # else its end has been read
+            data += streams.read_up_to(stream, LARGEST_TEXT + 1 - len(data))
+    try:
+        return tracefile.encode(_assemble(name, data))
+    except source.SourceErrors as errors:
+        known = "" if by_name else f"\n{title(name)}: this was taken as a trace text, since it holds text; a trace file is binary"
+        raise source.SourceErrors(f"{errors}{known}") from errors
 
 
 def write(name: str, data: bytes) -> None:
-    """Write a whole file, or to standard output for `-`."""
-    try:
-        if name != STREAM:
-            with open(name, "wb") as file:
-                file.write(data)
-            return
-        if sys.stdout is None:
-            raise UserError("standard output is closed")
-        sys.stdout.buffer.write(data)
-        sys.stdout.buffer.flush()
-    except BrokenPipeError:
-        raise
-    except OSError as error:
-        if name == STREAM:
-            abandon_output()
-        where = "standard output" if name == STREAM else name
-        raise UserError(f"cannot write {where}: {error.strerror}") from error
-
-
-def write_text(text: str) -> None:
-    """Write a text to standard output."""
-    write(STREAM, text.encode("utf-8", "surrogateescape"))
-
-
-def abandon_output() -> None:
-    """Let standard output go, so that what could not be written there is not tried again at exit."""
-    if sys.stdout is not None:
-        os.dup2(os.open(os.devnull, os.O_WRONLY), sys.stdout.fileno())
-
-
-def refuse_same(source: str, target: str) -> None:
-    """Refuse to write a file over the one that it is made from."""
-    if STREAM in (source, target) or not os.path.exists(source) or not os.path.exists(target):
+    """Write a whole file, or to standard output for `-`; where that fails, an old file is as it was."""
+    if name == STREAM:
+        streams.write_out(data)
         return
-    if os.path.samefile(source, target):
-        raise UserError(f"{target} is the input itself and would be lost; give -o another name")
+    try:
+        replace_file(name, data)
+    except OSError as error:
+        raise MachineFailure(f"cannot write {title(name)}: {reason(error)}{_hint(name, error)}") from error
+
+
+def refuse_same(name: str, target: str) -> None:
+    """Refuse to write a file over the one that it is made from."""
+    given, wanted = _found(name, _STANDARD_INPUT), _found(target, _STANDARD_OUTPUT)
+    if given is None or wanted is None or not stat.S_ISREG(given.st_mode):
+        return
+    if os.path.samestat(given, wanted):
+        where = "standard output" if target == STREAM else title(target)
+        raise BadInput(f"{where} is the input itself, which would be lost; write to another file")
+
+
+@contextlib.contextmanager
+def _opened(name: str) -> Iterator[BinaryIO]:
+    """Open a file, or standard input for `-`; tell what goes wrong with it then and later."""
+    try:
+        if name == STREAM:
+            yield streams.standard_input()
+        else:
+            with open(name, "rb") as stream:
+                yield stream
+    except OSError as error:
+        raise MachineFailure(f"cannot read {title(name)}: {reason(error)}") from error
+
+
+def _assemble(name: str, data: bytes) -> tracefile.Trace:
+    """Assemble a text that is not too long."""
+    if len(data) > LARGEST_TEXT:
+        share = f"{LARGEST_TEXT // tracefile.MAX_STEPS:,} for each of the {tracefile.MAX_STEPS:,} steps that a trace can have"
+        raise BadInput(f"{title(name)} has more than {LARGEST_TEXT:,} bytes, the most that a trace text may have ({share})")
+    return assembler.assemble(title(name), data)
+
+
+def _hint(name: str, error: OSError) -> str:
+    """Say after a failed write what became of an old file, and what could be done."""
+    if not os.path.isfile(name):
+        return ""
+    if error.errno in _NOT_BESIDE and os.access(name, os.W_OK):
+        return "; the file is as it was. A new one is made beside it first; '-o - > FILE' writes over the old one"
+    return "; the file is as it was"
+
+
+def _found(name: str, standard: int) -> os.stat_result | None:
+    """Give what stands under a name, or behind a standard stream for `-`; None if there is nothing."""
+    try:
+        return os.fstat(standard) if name == STREAM else os.stat(name)
+    except OSError:
+        return None

@@ -1,22 +1,28 @@
 """What `--help` says of the tool and of each command."""
+from frontend.errors import MEANINGS
 
 ABOUT = """\
 A cache whose ways are divided among domains: run traces on the proved model.
 
-Every answer comes from the proved programs in target/bin, which are built with
-'rt check' where they are missing. This front end only formats what they say.
+Every answer comes from the proved programs in target/bin. Those that a command
+needs are built with 'rt check' where they are missing or older than their
+sources. This front end sees that what they say is whole, and formats it.
 """
 
-STATUS = "exit status: 0 done; 1 isolate found a difference; 2 bad input, told on standard error"
+STATUS = "\n".join(("exit status:", *(f"  {status:<4} {meaning}" for status, meaning in MEANINGS.items())))
 
 LIST = """\
 Print the listing of a trace, byte for byte what target/bin/lister writes: sets,
 ways, rule and number of steps; an answer for each step; and the counts of each
-domain that has ways. A file that is refused as a whole has a listing too,
-'refused' and the number; the reason is then told on standard error.
+domain that has ways.
 
-FILE is a trace file, or a trace text if its name ends in .txt; without FILE, or
-with -, a trace file is read from standard input.
+A file that is refused as a whole, by 10 or by 1, has a listing too, 'refused' and
+the number. It is printed, the reason is told on standard error, and the exit
+status is 2, as it is for explain and isolate.
+
+FILE is a trace file or a trace text; without FILE, or with -, standard input. A
+text is known by a name that ends in .txt, or by what it holds, since no trace file
+that the cache takes is text. It may have up to 4,194,304 bytes.
 """
 
 ASSEMBLE = """\
@@ -28,6 +34,7 @@ a line:
   rule tree                     tree (or tree-plru), nru, or a number
   0 load 0x40                   domain, kind (fetch, load, store, flush), address
   1 policy hit=0-3 fill=0,1     maps are lists of ways; none is the empty map
+  1 policy hit=2,3 fill=way3    one way alone is way3: a 3 could be a map too
   1 policy hit=0x3 fill=0x3     a number with 0x or 0b is a mask: bit w is way w
   0 policy arg=0x1_0000_0003    the whole argument of a policy, as a number
   7 kind=9 0x123                any kind by its number, and its argument
@@ -35,6 +42,8 @@ a line:
 Numbers are decimal, 0x or 0b, and '_' may stand between digits. '#' starts a
 comment. Whatever a trace file can say is assembled, also where the cache will
 refuse it. Every error is told with its line and column; then nothing is written.
+A text may have up to 4,194,304 bytes, 1,024 for each of 4,096 steps. FILE is
+replaced when all is written; where that fails, an old FILE is as it was.
 """
 
 SHOW = """\
@@ -48,9 +57,11 @@ struck out (by target/bin/purger), and show side by side what DOMAIN sees: the
 answers to its steps; at the end its line of the listing, its maps and the lines
 in its ways; and whether the policy changes of other domains are accepted. That
 these are equal for every trace is the theorem in docs/CLAIMS.md. It covers the
-domain's own replacement bits too, which are not compared here.
+domain's own replacement bits too, which are not compared here. That the purger's
+list is the struck-out list is checked, step by step.
 
-FILE is as for list. Exit status: 0 no difference, 1 a difference, 2 bad input.
+FILE is as for list. Exit status: 0 no difference, 1 a difference; the others are
+those of 'dipperlock --help'.
 """
 
 EXPLAIN = """\

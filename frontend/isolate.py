@@ -11,12 +11,15 @@ from frontend.run import Run
 from frontend.table import columns
 from frontend.tracefile import Step
 
+MOST_TOLD = 5  # differences that are told in a sentence each
+MOST_ENDINGS = 8  # differences at the end that are shown in the table
 _MARK = "<- first difference"
 
 
 def render(name: str, domain: int, whole: Run, struck: Run, found: Comparison, paint: Paint) -> str:
     """Lay a comparison out for a reader."""
-    first = found.first_difference()
+    differences = found.differences()
+    first = differences[0] if differences else None
     gone = len(whole.trace.steps) - len(struck.trace.steps)
     lines = [
         f"{name}: {words.geometry(whole.trace)}, {counted(len(whole.trace.steps), 'step')}",
@@ -31,7 +34,7 @@ def render(name: str, domain: int, whole: Run, struck: Run, found: Comparison, p
         "Policy changes of other domains: accepted, or the refusal",
         *_pair_table(found.others, words.step, first, paint),
         "",
-        _conclusion(domain, first, paint),
+        *(paint("red" if differences else "green", line) for line in _conclusion(domain, differences)),
     ]
     return "\n".join(lines) + "\n"
 
@@ -47,10 +50,13 @@ def _pair_table(pairs: list[Pair], say: Callable[[Step], str], first: Compared |
 
 
 def _ending_table(endings: list[Ending], first: Compared | None, paint: Paint) -> list[str]:
-    """Lay what stands at the end of both runs out."""
+    """Lay what stands at the end of both runs out: all that is the same, and the first differences."""
+    hidden = {id(ending) for ending in [ending for ending in endings if not ending.same][MOST_ENDINGS:]}
+    shown = [ending for ending in endings if id(ending) not in hidden]
     rows = [(" ", "", "whole run", "struck-out run", "")]
-    rows += [_marked((ending.name, *ending.seen), ending, first) for ending in endings]
-    return _coloured(columns(rows), [None, *endings], paint)
+    rows += [_marked((ending.name, *ending.seen), ending, first) for ending in shown]
+    table = _coloured(columns(rows), [None, *shown], paint)
+    return table + [paint("red", f"*  and {counted(len(hidden), 'more difference')}")] if hidden else table
 
 
 def _marked(cells: tuple[str, ...], thing: Compared, first: Compared | None) -> tuple[str, ...]:
@@ -64,13 +70,21 @@ def _coloured(lines: list[str], things: list[Compared | None], paint: Paint) -> 
     return [paint("dim", head[0]), *(line if thing.same else paint("red", line) for line, thing in body)]
 
 
-def _conclusion(domain: int, first: Compared | None, paint: Paint) -> str:
-    """Say in a sentence whether there is a difference, and which comes first."""
-    if first is None:
-        return paint("green", f"No difference: domain {domain} sees the same in both runs.")
-    if isinstance(first, Ending):
-        where = f"at the end, {first.name}"
+def _conclusion(domain: int, differences: list[Compared]) -> list[str]:
+    """Say whether there are differences, how many, and what the first ones are."""
+    if not differences:
+        return [f"No difference: domain {domain} sees the same in both runs."]
+    lines = [f"{counted(len(differences), 'difference')}: domain {domain} does not see the same in both runs."]
+    for place, thing in enumerate(differences[:MOST_TOLD]):
+        lines.append(f"{'Next' if place else 'First'} difference: {_sentence(thing)}")
+    hidden = len(differences) - MOST_TOLD
+    return lines + [f"And {hidden:,} more."] if hidden > 0 else lines
+
+
+def _sentence(thing: Compared) -> str:
+    """Say where something differs, and what it is in both runs."""
+    if isinstance(thing, Ending):
+        where = f"at the end, {thing.name}"
     else:
-        where = f"step {first.places[0]} ({first.places[1]} in the struck-out run), {words.step(first.step)}"
-    both = f"'{first.seen[0]}' in the whole run, '{first.seen[1]}' in the struck-out run"
-    return paint("red", f"First difference: {where}: {both}.")
+        where = f"step {thing.places[0]} ({thing.places[1]} in the struck-out run), {words.step(thing.step)}"
+    return f"{where}: '{thing.seen[0]}' in the whole run, '{thing.seen[1]}' in the struck-out run."

@@ -1,15 +1,23 @@
 """Running the proved programs in target/bin: every answer about a cache comes from them."""
 from __future__ import annotations
 
+import contextlib
+import os
+import signal
 import subprocess
+import time
 from pathlib import Path
 
 from frontend.build import build
-from frontend.errors import UserError
+from frontend.crates import newest_source
+from frontend.errors import MachineFailure, reason
+from frontend.quote import cut
+from frontend.streams import tell
 
 ROOT = Path(__file__).resolve().parent.parent
 BIN = ROOT / "target" / "bin"
 NAMES = ("lister", "purger", "stepper")
+_MOST_SAID = 2000  # characters of what a program says on standard error that are passed on
 
 
 def lister(trace: bytes) -> bytes:
@@ -27,18 +35,54 @@ def stepper(trace: bytes) -> bytes:
     return _run("stepper", (), trace)
 
 
-def _run(name: str, arguments: tuple[str, ...], trace: bytes) -> bytes:
-    """Run a program on a trace file, after building the programs if it is missing."""
+def amiss(name: str) -> str | None:
+    """Say why a program has to be built: it is missing, or older than a source that it is made of. None if it need not."""
     program = BIN / name
     if not program.is_file():
-        build(ROOT, NAMES)
-    if not program.is_file():
-        raise UserError(f"'rt check {' '.join(NAMES)}' succeeded, but there is still no target/bin/{name}")
+        return "is missing"
+    newest = newest_source(ROOT, name)
+    if newest is not None and program.stat().st_mtime_ns < newest[0]:
+        return f"is older than {newest[1]}"
+    return None
+
+
+def need(*names: str) -> None:
+    """See that programs are there and of the sources as they stand; build those that are not, and no others."""
+    found = {name: amiss(name) for name in names}
+    wanting = {name: what for name, what in found.items() if what is not None}
+    if not wanting:
+        return
+    sources = [newest_source(ROOT, name) for name in wanting]
+    seen = max([time.time_ns(), *(newest[0] for newest in sources if newest)])
+    build(ROOT, wanting)
+    for name in wanting:
+        if not (BIN / name).is_file():
+            raise MachineFailure(f"'rt check {' '.join(wanting)}' succeeded, but there is still no target/bin/{name}")
+        # A program whose sources were touched but not changed is not made anew, and keeps its time. It is given the time at which
+        # the build began: a source that was written meanwhile is newer.
+        with contextlib.suppress(OSError):
+            os.utime(BIN / name, ns=(seen, seen))
+
+
+def _run(name: str, arguments: tuple[str, ...], trace: bytes) -> bytes:
+    """Run a program on a trace file; pass on what it says on standard error."""
     try:
-        done = subprocess.run((program, *arguments), input=trace, capture_output=True, check=False)
+        done = subprocess.run((BIN / name, *arguments), input=trace, stdout=subprocess.PIPE, stderr=subprocess.PIPE, check=False)
     except OSError as error:
-        raise UserError(f"cannot run target/bin/{name}: {error.strerror}") from error
+        raise MachineFailure(f"cannot run target/bin/{name}: {reason(error)}") from error
+    said = cut(done.stderr.decode("utf-8", "replace").strip(), _MOST_SAID)
     if done.returncode != 0:
-        said = done.stderr.decode("utf-8", "replace").strip()
-        raise UserError(f"target/bin/{name} ended with status {done.returncode}" + (f": {said}" if said else ""))
+        raise MachineFailure(f"target/bin/{name} {_ending(done.returncode)}" + (f": {said}" if said else ""))
+    if said:
+        tell(f"dipperlock: target/bin/{name} says: {said}")
     return done.stdout
+
+
+def _ending(status: int) -> str:
+    """Say how a program ended that did not end well."""
+    if status > 0:
+        return f"ended with status {status}"
+    try:
+        return f"was ended by {signal.Signals(-status).name}"
+    except ValueError:
+        return f"was ended by signal {-status}"

@@ -3,13 +3,14 @@ from __future__ import annotations
 
 from dataclasses import dataclass
 
-from frontend import files, listing, programs, stepper, tracefile, words
-from frontend.errors import UserError
+from frontend import files, listing, programs, source, stepper, tracefile, words
+from frontend.errors import BadInput
 from frontend.listing import Listing
 from frontend.stepper import Block
 from frontend.tracefile import Trace
 
 _GEOMETRY, _FILE = 1, 10  # the numbers by which a whole file is refused
+_UTF_16 = (b"\xff\xfe", b"\xfe\xff")  # how a text begins that two bytes write a character of
 
 
 @dataclass(frozen=True)
@@ -22,14 +23,20 @@ class Run:
 
 
 def take(name: str, data: bytes) -> Run:
-    """Run the programs on a trace file; raise UserError if the file is refused."""
+    """Run the programs on a trace file; raise BadInput if the file is refused."""
     trace = decode(name, data)
-    listed = listing.parse(programs.lister(data))
+    _, listed = listing_of(data)
     if listed.refused is not None:
-        raise UserError(why_refused(name, data, listed.refused))
-    if len(listed.answers) != len(trace.steps):
-        raise UserError("the lister's listing does not have as many steps as the trace")
+        raise BadInput(why_refused(name, data, listed.refused))
     return Run(trace, listed, stepper.parse(programs.stepper(data), trace))
+
+
+def listing_of(data: bytes) -> tuple[bytes, Listing]:
+    """Give the listing of a file as the lister writes it, and taken apart; raise NotWhole if it is not whole."""
+    written = programs.lister(data)
+    listed = listing.parse(written)
+    listing.check(listed, None if tracefile.why_refused(data) else tracefile.decode(data))
+    return written, listed
 
 
 def decode(name: str, data: bytes) -> Trace:
@@ -37,16 +44,23 @@ def decode(name: str, data: bytes) -> Trace:
     try:
         return tracefile.decode(data)
     except tracefile.BadTraceFile as bad:
-        raise UserError(why_refused(name, data, _FILE)) from bad
+        raise BadInput(why_refused(name, data, _FILE)) from bad
 
 
 def why_refused(name: str, data: bytes, number: int) -> str:
     """Say why a whole file is refused, what it has, and what would be right."""
     refused, fault = f"{files.title(name)} is refused by {number}", tracefile.why_refused(data)
     if number == _FILE and fault:
-        is_text = data and data.isascii() and b"\0" not in data
-        hint = " It looks like a trace text; 'dipperlock assemble' makes a trace file of it." if is_text else ""
-        return f"{refused}: {fault}.{hint}"
+        return f"{refused}: {fault}.{_hint(data)}"
     if number == _GEOMETRY and not fault:
         refused += f": {words.geometry(tracefile.decode(data))}"
     return f"{refused}. {words.refusal(number)}"
+
+
+def _hint(data: bytes) -> str:
+    """Say what to do with a file that is perhaps not meant as a trace file."""
+    if source.is_text(data):
+        return " It looks like a trace text: 'dipperlock assemble' makes a trace file of it; list, explain and isolate take both."
+    if data.startswith(_UTF_16) or data and source.is_text(data.decode("latin-1").encode()):
+        return " If it is meant as a trace text, save it as UTF-8."
+    return ""

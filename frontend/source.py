@@ -1,17 +1,23 @@
 """Lines of a source text, and problems told with file, line, column, the line itself and a caret."""
 from __future__ import annotations
 
+import codecs
 import difflib
 import re
 from collections.abc import Iterable
 from dataclasses import dataclass
 
 from frontend import numbers
-from frontend.errors import UserError
+from frontend.errors import BadInput
+from frontend.quote import quoted
 
 MOST_SHOWN = 20
+MOST_FOUND = 1000  # errors after which no more are looked for: such a text is no trace text at all
+_LONGEST_KNOWN = 20  # characters; a longer word was not meant to be one of ours
 _WINDOW = 100  # characters of a source line that are shown
 _WORD = re.compile(r"\S+")
+_BYTE_ORDER = b"\xef\xbb\xbf"
+_CONTROLS = bytes(set(range(32)) - set(b"\t\n\v\f\r")) + b"\x7f"
 
 
 @dataclass(frozen=True)
@@ -32,7 +38,7 @@ class Problem:
     message: str
 
 
-class SourceErrors(UserError):
+class SourceErrors(BadInput):
     """All problems of one text, laid out for standard error."""
 
     def report(self) -> str:
@@ -67,8 +73,13 @@ class Source:
                 self.fail()
 
     def add(self, line: int, column: int, width: int, message: str) -> None:
-        """Note a problem."""
-        self.problems.append(Problem(line, column, width, message))
+        """Note a problem, unless there are too many already."""
+        if not self.is_hopeless():
+            self.problems.append(Problem(line, column, width, message))
+
+    def is_hopeless(self) -> bool:
+        """Tell whether so much is wrong that no more is looked for."""
+        return len(self.problems) >= MOST_FOUND
 
     def fail(self) -> None:
         """Raise the problems, if there are any, in the order of their places."""
@@ -76,8 +87,9 @@ class Source:
             return
         found = sorted(self.problems, key=lambda problem: (problem.line, problem.column))
         told = [self._tell(problem) for problem in found[:MOST_SHOWN]]
+        count = numbers.counted(len(found), "error") + (" or more" if self.is_hopeless() else "")
         shown = f", the first {MOST_SHOWN} shown" if len(found) > MOST_SHOWN else ""
-        told.append(f"{self.name}: {numbers.counted(len(found), 'error')}{shown}; no trace was made")
+        told.append(f"{self.name}: {count}{shown}; no trace was made")
         raise SourceErrors("\n".join(told))
 
     def _tell(self, problem: Problem) -> str:
@@ -136,25 +148,30 @@ class Line:
         return value
 
 
-def quoted(text: str) -> str:
-    """Quote a word of the text, shortened if it is long."""
-    return repr(text if len(text) <= 40 else text[:37] + "...")
-
-
 def close_to(word: str, known: Iterable[str]) -> str | None:
     """Give the known word that an unknown one was perhaps meant to be."""
-    close = difflib.get_close_matches(word.lower(), known, 1)
+    close = difflib.get_close_matches(word.lower(), known, 1) if len(word) <= _LONGEST_KNOWN else []
     return close[0] if close else None
 
 
-def unknown(what: str, word: str, known: Iterable[str], known_ones: str) -> str:
+def unknown(what: str, word: str, meant: str | None, known_ones: str) -> str:
     """Say that a word is unknown, which one was perhaps meant, and which ones there are."""
-    close = close_to(word.partition("=")[0], known)
-    return f"unknown {what} {quoted(word)}" + (f"; did you mean '{close}'? " if close else ". ") + known_ones
+    return f"unknown {what} {quoted(word)}" + (f"; did you mean '{meant}'? " if meant else ". ") + known_ones
+
+
+def is_text(data: bytes) -> bool:
+    """Tell whether bytes, perhaps the first ones of a file, are UTF-8 text without control characters."""
+    if not data or data.translate(None, _CONTROLS) != data:
+        return False
+    try:
+        codecs.getincrementaldecoder("utf-8")().decode(data)  # the last character may be cut
+    except UnicodeDecodeError:
+        return False
+    return True
 
 
 def _raw_lines(data: bytes) -> list[bytes]:
     """Split a text into lines, without their ends and without a mark of byte order."""
-    body = data[3:] if data.startswith(b"\xef\xbb\xbf") else data
+    body = data[len(_BYTE_ORDER) :] if data.startswith(_BYTE_ORDER) else data
     lines = [line[:-1] if line.endswith(b"\r") else line for line in body.split(b"\n")]
     return lines[:-1] if lines[-1] == b"" else lines

@@ -2,19 +2,26 @@
 from __future__ import annotations
 
 from frontend import maps, numbers
-from frontend.source import Line, Token, quoted, unknown
+from frontend.quote import quoted
+from frontend.source import Line, Token, close_to, unknown
 from frontend.tracefile import KINDS, LARGEST_ARGUMENT, LARGEST_BYTE, POLICY, Step
 
 _NUMBERED = "kind="
 _KIND_NUMBERS = {name: number for number, name in KINDS.items()}
 _KINDS_ARE = f"Kinds are {', '.join(KINDS.values())}, {_NUMBERED}N"
 _FIELDS = ("hit", "fill", "arg")
+_LONGEST = 24  # characters of a word that an example repeats
 _POLICY_TAKES = "A policy step takes hit=MAP and fill=MAP, or arg=NUMBER"
 
 
 def is_kind(word: str) -> bool:
     """Tell whether a word is meant as a kind."""
     return word in _KIND_NUMBERS or word.startswith(_NUMBERED)
+
+
+def repeated(word: str, form: str) -> str:
+    """Give a word to be repeated in an example, or its form if it is long."""
+    return word if len(word) <= _LONGEST else form
 
 
 def read_step(line: Line) -> Step | None:
@@ -37,13 +44,13 @@ def _read_kind(line: Line, token: Token) -> int | None:
         return _KIND_NUMBERS[token.text]
     if token.text.startswith(_NUMBERED):
         return line.read_number(token, len(_NUMBERED), LARGEST_BYTE, "a kind")
-    line.fault(token, unknown("kind", token.text, _KIND_NUMBERS, _KINDS_ARE))
+    line.fault(token, unknown("kind", token.text, close_to(token.text, _KIND_NUMBERS), _KINDS_ARE))
     return None
 
 
 def _read_argument(line: Line) -> int | None:
     """Read the address of an access or flush, or the raw argument of a `kind=N` step."""
-    kind = line.tokens[1].text
+    kind = repeated(line.tokens[1].text, f"{_NUMBERED}N")
     thing = "argument" if kind.startswith(_NUMBERED) else "address"
     if len(line.tokens) < 3:
         line.fault_at_end(f"the step lacks its {thing}, as in '0 {kind} 0x40'")
@@ -98,9 +105,10 @@ def _join(line: Line, fields: dict[str, int | None]) -> int | None:
 def _fault_field(line: Line, token: Token) -> None:
     """Note a word that is no field of a policy."""
     if numbers.parse(token.text) is not None:
-        hint = f"write a whole argument as 'arg={token.text}', and a map without spaces"
+        hint = f"write a whole argument as 'arg={repeated(token.text, 'NUMBER')}', and a map without spaces"
         line.fault(token, f"unexpected {quoted(token.text)}; {hint}")
     elif token.text in _FIELDS:
         line.fault(token, f"'{token.text}' lacks its value; write '{token.text}=' and the value without a space")
     else:
-        line.fault(token, unknown("field", token.text, _FIELDS, _POLICY_TAKES))
+        meant = close_to(token.text.partition("=")[0], _FIELDS)
+        line.fault(token, unknown("field", token.text, meant, _POLICY_TAKES))

@@ -7,7 +7,7 @@ from __future__ import annotations
 import struct
 from dataclasses import dataclass, replace
 
-from frontend.errors import UserError
+from frontend.errors import MachineFailure
 from frontend.tracefile import Trace
 
 DOMAINS = 16
@@ -36,7 +36,7 @@ class Block:
 
 
 def parse(data: bytes, trace: Trace) -> list[Block]:
-    """Take a stream apart into the fresh block and one for each step; raise UserError if it does not fit the trace."""
+    """Take a stream apart into the fresh block and one for each step; raise MachineFailure if it does not fit the trace."""
     blocks, offset, current = [], 0, {}
     try:
         for _ in range(len(trace.steps) + 1):
@@ -45,12 +45,12 @@ def parse(data: bytes, trace: Trace) -> list[Block]:
             current.update(changed)
             blocks.append(replace(block, rows=changed))
     except struct.error as error:
-        raise UserError(f"the stepper's stream ends within block {len(blocks)}") from error
+        raise _misfit(f"it breaks off within block {len(blocks)} of {len(trace.steps) + 1}") from error
     if offset != len(data):
-        raise UserError(f"the stepper's stream goes on after the {len(blocks)} blocks of the trace")
+        raise _misfit(f"it goes on after the {len(blocks)} blocks of the trace")
     named = {number for block in blocks for number in (block.set, *block.rows)}
     if list(blocks[0].rows) != list(range(trace.sets)) or max(named) >= trace.sets:
-        raise UserError(f"the rows in the stepper's stream are not those of {trace.sets} sets")
+        raise _misfit(f"its rows are not those of {trace.sets} sets")
     return blocks
 
 
@@ -60,6 +60,11 @@ def rows_at_end(blocks: list[Block]) -> dict[int, Row]:
     for block in blocks:
         rows.update(block.rows)
     return rows
+
+
+def _misfit(what: str) -> MachineFailure:
+    """Make the error of a stream that is not one of its trace."""
+    return MachineFailure(f"target/bin/stepper did not give a whole stream of this trace: {what}")
 
 
 def _block(data: bytes, offset: int, ways: int) -> tuple[Block, int]:

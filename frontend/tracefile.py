@@ -2,9 +2,9 @@
 from __future__ import annotations
 
 import struct
-from dataclasses import dataclass, replace
+from dataclasses import dataclass
 
-from frontend.errors import UserError
+from frontend.errors import BadInput
 from frontend.numbers import counted
 
 MAX_STEPS = 4096
@@ -17,6 +17,7 @@ LARGEST_ARGUMENT = 0xFFFF_FFFF_FFFF_FFFF
 
 _HEADER = struct.Struct("<HBBI")
 _STEP_SIZE = 10
+LARGEST_FILE = _HEADER.size + _STEP_SIZE * MAX_STEPS  # bytes
 
 
 @dataclass(frozen=True)
@@ -38,7 +39,7 @@ class Trace:
     steps: tuple[Step, ...]
 
 
-class BadTraceFile(UserError):
+class BadTraceFile(BadInput):
     """Bytes that document 01 refuses by 10, with the reason."""
 
 
@@ -62,25 +63,18 @@ def decode(data: bytes) -> Trace:
     return Trace(sets, ways, rule, tuple(steps))
 
 
-def with_steps(data: bytes, lines: bytes) -> bytes:
-    """Give the trace file of the same geometry whose steps are the purger's lines."""
-    try:
-        steps = tuple(Step(*map(int, line.split())) for line in lines.splitlines())
-    except (TypeError, ValueError) as error:
-        raise UserError("the purger's lines are not a domain, a kind and an argument each") from error
-    return encode(replace(decode(data), steps=steps))
-
-
 def why_refused(data: bytes) -> str | None:
-    """Say which of refusal 10's three reasons holds of a file, or None if none does."""
+    """Say which of refusal 10's three reasons holds of a file, or None if none does.
+
+    Of a file that is longer than the longest trace file only the first bytes are known, and not its length."""
     size = len(data)
     if size < _HEADER.size:
         return f"it has {counted(size, 'byte')}, and the header alone has {_HEADER.size}"
     count = _HEADER.unpack_from(data)[3]
+    if size > LARGEST_FILE and count > MAX_STEPS:
+        return f"its header says {counted(count, 'step')}, and the most is {MAX_STEPS:,}"
     expected = _HEADER.size + _STEP_SIZE * count
-    if size != expected:
-        due = f"its header says {counted(count, 'step')}, so its length is to be 8 + 10 x {count} = {expected} bytes"
-        return f"{due}; it has {size}"
-    if count > MAX_STEPS:
-        return f"it has {counted(count, 'step')}, and the most is {MAX_STEPS:,}"
-    return None
+    if size == expected:
+        return None
+    due = f"its header says {counted(count, 'step')}, so its length is to be 8 + 10 x {count} = {expected} bytes"
+    return f"{due}; it has " + (f"more than {LARGEST_FILE}" if size > LARGEST_FILE else f"{size}")

@@ -1,6 +1,7 @@
 """What several tests use: calling the front end, random traces, and streams made by hand."""
 from __future__ import annotations
 
+import contextlib
 import io
 import os
 import random
@@ -8,16 +9,22 @@ import struct
 import subprocess
 import sys
 import unittest
+from collections.abc import Callable
 from unittest import mock
 
 from frontend import cli, programs
 from frontend.stepper import Row
 from frontend.tracefile import Step, Trace
 
-needs_programs = unittest.skipUnless(
-    all((programs.BIN / name).is_file() for name in programs.NAMES),
-    f"the programs are not in target/bin; 'rt check {' '.join(programs.NAMES)}' builds them",
+SH = "/bin/sh"
+MAIN = str(programs.ROOT / "frontend" / "__main__.py")
+
+needs_programs = unittest.skipIf(
+    any(programs.amiss(name) for name in programs.NAMES),
+    f"the programs are not in target/bin, or not up to date; 'rt check {' '.join(programs.NAMES)}' builds them",
 )
+needs_no_rights = unittest.skipIf(hasattr(os, "geteuid") and os.geteuid() == 0, "root may read and write every file")
+needs_full = unittest.skipUnless(os.path.exists("/dev/full"), "there is no /dev/full")
 
 
 def call(*arguments: str, stdin: bytes = b"") -> tuple[int, bytes, str]:
@@ -32,11 +39,32 @@ def call(*arguments: str, stdin: bytes = b"") -> tuple[int, bytes, str]:
     return status, out.buffer.getvalue(), err.getvalue()
 
 
-def start(*arguments: str, **options) -> subprocess.Popen:
-    """Start the executable in a process of its own; no `rt` is on its PATH, so it cannot build."""
-    command = (sys.executable, str(programs.ROOT / "dipperlock"), *arguments)
+def start(*arguments: str, shell: str = "", flags: tuple[str, ...] = ("-I", "-S"), **options) -> subprocess.Popen:
+    """Start the front end in a process of its own, as ./dipperlock does; no `rt` is on its PATH, so it cannot build.
+
+    What a shell does to its streams, such as `>&-`, may be given as `shell`."""
+    command = (sys.executable, *flags, MAIN, *arguments)
+    if shell:
+        command = (SH, "-c", f'exec "$@" {shell}', SH, *command)
     streams = {"stdin": subprocess.DEVNULL, "stdout": subprocess.PIPE, "stderr": subprocess.PIPE}
     return subprocess.Popen(command, env={**os.environ, "PATH": ""}, **{**streams, **options})
+
+
+def ended(*arguments: str, data: bytes = b"", **options) -> tuple[int, bytes, str]:
+    """Run the front end in a process of its own to its end; give its status, output and error text."""
+    with start(*arguments, **{"stdin": subprocess.PIPE, **options}) as job:
+        out, err = job.communicate(data if job.stdin else None)
+    return job.returncode, out or b"", (err or b"").decode()
+
+
+def by_rote(**said: Callable[..., bytes]) -> contextlib.AbstractContextManager:
+    """Let programs answer as they are told, and be there without being built."""
+    return mock.patch.multiple(programs, need=lambda *names: None, **said)
+
+
+def random_bytes(source: random.Random, count: int) -> bytes:
+    """Make bytes; the method of that name is younger than the oldest Python that the front end needs."""
+    return bytes(source.getrandbits(8) for _ in range(count))
 
 
 def random_trace(source: random.Random, count: int) -> Trace:

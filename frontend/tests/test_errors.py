@@ -1,4 +1,6 @@
 """Every error of a trace text: its line, its column and its words."""
+from __future__ import annotations
+
 import unittest
 
 from frontend.assembler import assemble
@@ -52,30 +54,51 @@ class StepErrors(unittest.TestCase):
 
     def test_policy_fields(self):
         takes = "A policy step takes hit=MAP and fill=MAP, or arg=NUMBER"
-        self.check("0 policy hit=0", 15, "the policy lacks fill=MAP; for an empty map write fill=none")
-        self.check("0 policy fill=0", 16, "the policy lacks hit=MAP; for an empty map write hit=none")
+        self.check("0 policy hit=way0", 18, "the policy lacks fill=MAP; for an empty map write fill=none")
+        self.check("0 policy fill=way0", 19, "the policy lacks hit=MAP; for an empty map write hit=none")
         self.check("0 policy 0x30003", 10, "unexpected '0x30003'; write a whole argument as 'arg=0x30003'")
-        self.check("0 policy hat=0 fill=0", 10, f"unknown field 'hat=0'; did you mean 'hit'? {takes}")
-        self.check("0 policy hit=0 fill=0 hit=1", 23, f"'hit=' is given twice. {takes}")
-        self.check("0 policy hit=0 fill=0 arg=1", 10, f"arg= stands beside hit= or fill=. {takes}")
-        self.check("0 policy hit fill=0", 10, "'hit' lacks its value; write 'hit=' and the value without a space")
+        self.check("0 policy hat=way0 fill=way0", 10, f"unknown field 'hat=way0'; did you mean 'hit'? {takes}")
+        self.check("0 policy hit=way0 fill=none hit=way1", 29, f"'hit=' is given twice. {takes}")
+        self.check("0 policy hit=way0 fill=none arg=1", 10, f"arg= stands beside hit= or fill=. {takes}")
+        self.check("0 policy hit fill=none", 10, "'hit' lacks its value; write 'hit=' and the value without a space")
         self.check("0 policy arg=-1", 14, "'-1' is not a number; an argument is")
         self.check("0 policy arg=0x1_0000_0000_0000_0000", 14, "'0x1_0000_0000_0000_0000' is too large")
 
     def test_maps(self):
-        form = "a map is a list of ways such as 0,1 or 0-3, a mask such as 0x3, or none"
-        self.check("0 policy hit=0,16 fill=0", 16, "way 16 is above 15, the highest that a map can hold")
-        self.check("0 policy hit=0-99 fill=0", 16, "way 99 is above 15")
-        self.check("0 policy hit=x fill=0", 14, f"'x' is not a way; {form}")
-        self.check("0 policy hit=0 fill=0,1-", 24, "'1-' is not a way")
-        self.check("0 policy hit=0 fill=-1", 21, "'-1' is not a way")
-        self.check("0 policy hit=0,0x1 fill=0", 16, "'0x1' is not a way")
-        self.check("0 policy hit=3-1 fill=0", 14, "range 3-1 runs downwards; write 1-3")
-        self.check("0 policy hit=0-3,2 fill=0", 18, "way 2 is named twice; name each way once")
-        self.check("0 policy hit= fill=0", 14, "a way is missing; for an empty map write none")
-        self.check("0 policy hit=0,,1 fill=0", 15, "a way is missing; write ways with one comma between and no space")
-        self.check("0 policy hit=0x1ffff fill=0", 14, "mask 0x1ffff has a way above 15; the largest mask is 0xffff")
-        self.check("0 policy hit=0xg fill=0", 14, f"'0xg' is not a mask; {form}")
+        form = "a map is a list of ways such as 0,1 or 0-3, one way such as way3, a mask such as 0x3, or none"
+        for written, offset, message in (
+            ("0,16", 2, "way 16 is above 15, the highest that a map can hold"),
+            ("0-99", 2, "way 99 is above 15"),
+            ("x", 0, f"'x' is not a way; {form}"),
+            ("0,1-", 3, "'1-' is not a way"),
+            ("-1", 0, "'-1' is not a way"),
+            ("0,0x1", 2, "'0x1' is not a way"),
+            ("3-1", 0, "range 3-1 runs downwards; write 1-3"),
+            ("0-3,2", 4, "way 2 is named twice; name each way once"),
+            ("", 0, "a way is missing; for an empty map write none"),
+            ("0,,1", 1, "a way is missing; write ways with one comma between and no space"),
+            ("3,", 1, "a way is missing; write ways with one comma between and no space"),
+            ("0x1ffff", 0, "mask 0x1ffff has a way above 15; the largest mask is 0xffff"),
+            ("0xg", 0, f"'0xg' is not a mask; {form}"),
+            ("way", 2, f"'way' is not a way; {form}"),
+            ("way16", 3, "way 16 is above 15"),
+            ("way0,1", 3, "'way0,1' is not a way"),
+            ("way0x1", 3, "'way0x1' is not a way"),
+        ):
+            self.check(f"0 policy hit={written} fill=none", 14 + offset, message)
+            self.check(f"0 policy hit=none fill={written}", 24 + offset, message)
+
+    def test_a_number_alone_is_no_map(self):
+        for written, message in (
+            ("3", "'3' alone could be a way or a map; write way3 for way 3, or 0x3 for the map 3, which is ways 0,1"),
+            ("4", "'4' alone could be a way or a map; write way4 for way 4, or 0x4 for the map 4, which is way 2"),
+            ("0", "'0' alone could be a way or a map; write way0 for way 0, or none for the map 0, which is empty"),
+            ("007", "'007' alone could be a way or a map; write way7 for way 7, or 0x7 for the map 7, which is ways 0-2"),
+            ("255", "'255' alone is neither a way nor a mask; write 0xff for the map 255, which is ways 0-7"),
+            ("65536", "'65536' is no map; a map is a list of ways"),
+        ):
+            self.check(f"0 policy hit={written} fill=none", 14, message)
+            self.check(f"0 policy hit=0-15 fill={written}", 24, message)
 
 
 class TextErrors(unittest.TestCase):
@@ -95,7 +118,10 @@ class TextErrors(unittest.TestCase):
         self.check("sets 1\nways 4\nrule 256", "3:6: '256' is too large; the number of a rule goes from 0 to 255")
         rules = "Rules are tree (or tree-plru), nru, or a number"
         self.check("sets 1\nways 4\nrule tre", f"3:6: unknown rule 'tre'; did you mean 'tree'? {rules}")
-        self.check("sets 1\nways 4\nrule xyz", f"3:6: unknown rule 'xyz'. {rules}")
+        for word, meant in (("NRU", "nru"), ("Tree", "tree"), ("TREE_PLRU", "tree-plru"), ("treeplru", "tree-plru")):
+            self.check(f"sets 1\nways 4\nrule {word}", f"3:6: unknown rule '{word}'; did you mean '{meant}'? {rules}")
+        for word in ("xyz", "lru", "LRU", "plru", "true-lru", "bit-plru", "nmru", "mru", "n"):
+            self.check(f"sets 1\nways 4\nrule {word}", f"3:6: unknown rule '{word}'. {rules}")
         self.check("sets\nways 4\nrule nru", "1:5: 'sets' lacks its value; write it as in 'sets 64'")
         self.check("sets 1 2\nways 4\nrule nru", "1:8: unexpected '2'; a header line has one value, as in 'sets 64'")
 
@@ -154,6 +180,37 @@ class Layout(unittest.TestCase):
         heads = [line.split(": ")[0] for line in told.splitlines() if line.startswith("case.txt:")]
         self.assertEqual(heads[:-1], ["case.txt:1:6", "case.txt:4:3", "case.txt:5:1", "case.txt:5:10"])
         self.assertIn("case.txt: 4 errors; no trace was made", told)
+
+    def test_long_words_are_cut(self):
+        long = 5000
+        digits, letters = "9" * long, "x" * long
+        for line in (
+            f"{digits} load 0",
+            f"0 {letters} 0",
+            f"0 load {letters}",
+            f"0 load 0 {letters}",
+            f"0 kind={digits} 0",
+            f"0 kind={'0' * long}9",
+            f"kind={digits} 0",
+            letters,
+            f"sets={letters}",
+            f"0 policy {letters}",
+            f"0 policy {digits}",
+            f"0 policy {letters}=1",
+            *(f"0 policy hit={word} fill=none" for word in (letters, digits, f"0x{digits}", f"0,{digits}", f"{'0' * long}3-1")),
+            f"0 policy hit=way{digits} fill=none",
+        ):
+            told = report((HEADER + line + "\n").encode())
+            self.assertLess(max(map(len, told.splitlines())), 320, told)
+        told = report((HEADER + f"0 {letters} 0\n").encode())
+        self.assertIn(f"unknown kind '{'x' * 60}'... (5,000 characters). Kinds are", told)
+
+    def test_a_text_that_is_none_is_not_read_to_its_end(self):
+        told = report(b"lorem ipsum\n" * 300_000)
+        self.assertTrue(told.endswith("case.txt: 1,000 errors or more, the first 20 shown; no trace was made"), told[-200:])
+        self.assertNotIn("there is no 'sets' line", told)
+        told = report(b"\xff\n" * 300_000)
+        self.assertTrue(told.endswith("case.txt: 1,000 errors or more, the first 20 shown; no trace was made"), told[-200:])
 
     def test_many_errors_are_counted(self):
         told = report((HEADER + "0 lod 0\n" * 50).encode())

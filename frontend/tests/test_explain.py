@@ -1,15 +1,17 @@
 """The story of a run, from a listing and a stream made by hand."""
+from __future__ import annotations
+
 import os
 import unittest
 from unittest import mock
 
-from frontend import listing, paint, programs, stepper, tracefile
+from frontend import listing, paint, stepper, tracefile
 from frontend.explain import MOST_ROWS, Explainer
 from frontend.paint import Paint
 from frontend.run import Run
 from frontend.stepper import Row
 from frontend.tests import case_a
-from frontend.tests.helpers import block, call
+from frontend.tests.helpers import block, by_rote, call
 from frontend.tracefile import Step, Trace
 
 
@@ -129,15 +131,14 @@ class Command(unittest.TestCase):
     """The command with programs that answer by rote."""
 
     def test_case_a(self):
-        said = {"lister": lambda data: case_a.LISTING, "stepper": lambda data: case_a.STREAM}
-        with mock.patch.multiple(programs, **said):
+        with by_rote(lister=lambda data: case_a.LISTING, stepper=lambda data: case_a.STREAM):
             status, out, err = call("explain", "-", stdin=case_a.FILE)
         self.assertEqual((status, err), (0, ""))
         self.assertEqual(out.decode(), told_case_a() + "\n")
 
     def test_programs_that_disagree(self):
-        said = {"lister": lambda data: case_a.LISTING, "stepper": lambda data: b""}
-        with mock.patch.multiple(programs, **said):
+        with by_rote(lister=lambda data: case_a.LISTING, stepper=lambda data: b""):
             status, out, err = call("explain", "-", stdin=case_a.FILE)
-        self.assertEqual((status, out), (2, b""))
-        self.assertEqual(err, "dipperlock: the stepper's stream ends within block 0\n")
+        self.assertEqual((status, out), (3, b""))
+        what = "target/bin/stepper did not give a whole stream of this trace: it breaks off within block 0 of 10"
+        self.assertEqual(err, f"dipperlock: {what}\n")

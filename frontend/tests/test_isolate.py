@@ -1,14 +1,15 @@
 """The comparison with the struck-out run, on listings made by hand."""
-import unittest
-from unittest import mock
+from __future__ import annotations
 
-from frontend import isolate, listing, programs, stepper, tracefile
+import unittest
+
+from frontend import isolate, listing, stepper, struck, tracefile
 from frontend.compare import compare
-from frontend.errors import UserError
+from frontend.errors import MachineFailure
 from frontend.paint import Paint
 from frontend.run import Run
 from frontend.stepper import Row
-from frontend.tests.helpers import block, call
+from frontend.tests.helpers import block, by_rote, call
 from frontend.tracefile import Step, Trace
 
 STEPS = (
@@ -88,7 +89,7 @@ class Compare(unittest.TestCase):
 
     def test_no_difference(self):
         found = self.found()
-        self.assertIsNone(found.first_difference())
+        self.assertEqual(found.differences(), [])
         self.assertEqual([pair.places for pair in found.own], [(0, 0), (3, 2), (6, 4)])
         self.assertEqual([pair.places for pair in found.others], [(1, 1), (4, 3)])
         self.assertEqual([pair.seen[0] for pair in found.others], ["accepted", "refused 8"])
@@ -107,22 +108,24 @@ class Compare(unittest.TestCase):
         self.assertEqual(told.count("<- first difference"), 1)
         self.assertIn(
             "First difference: step 3 (2 in the struck-out run), domain 0 loads at 0x0: "
-            "'fill 0' in the whole run, 'hit 0' in the struck-out run.",
+            "'fill 0' in the whole run, 'hit 0' in the struck-out run.\n",
             told,
         )
+        self.assertIn("\n2 differences: domain 0 does not see the same in both runs.\n", told)
+        self.assertIn("\nNext difference: step 6 (4 in the struck-out run), domain 0 loads at 0x40: 'evict 0 0 0'", told)
 
     def test_different_verdict_on_another_domain(self):
         told = self.rendered(STRUCK_LISTING.replace(b"3 refused 8", b"3 policy 0 0"))
         self.assertRegex(told, r"\n\* +4 +3 +domain 2 asks for .* +refused 8 +accepted +<- first difference\n")
 
     def test_drops_of_another_domain_may_differ(self):
-        self.assertIsNone(self.found(STRUCK_LISTING.replace(b"1 policy 0 0", b"1 policy 5 2")).first_difference())
+        self.assertEqual(self.found(STRUCK_LISTING.replace(b"1 policy 0 0", b"1 policy 5 2")).differences(), [])
 
     def test_counts_of_another_domain_may_differ(self):
-        self.assertIsNone(self.found(STRUCK_LISTING.replace(b"domain 1 0 0 0 0 0\n", b"")).first_difference())
+        self.assertEqual(self.found(STRUCK_LISTING.replace(b"domain 1 0 0 0 0 0\n", b"")).differences(), [])
 
     def test_different_counts(self):
-        first = self.found(STRUCK_LISTING.replace(b"domain 0 0 2", b"domain 0 1 2")).first_difference()
+        first = self.found(STRUCK_LISTING.replace(b"domain 0 0 2", b"domain 0 1 2")).differences()[0]
         self.assertEqual(first.seen, ("domain 0 0 2 1 0 0", "domain 0 1 2 1 0 0"))
 
     def test_line_of_the_domain_missing(self):
@@ -133,33 +136,117 @@ class Compare(unittest.TestCase):
     def test_different_line_in_its_way(self):
         stream = STRUCK_STREAM[: -len(block(BOTH, 0, {0: Row(1, 0, 2, (1, 0))}))]
         stream += block(BOTH, 0, {0: Row(1, 1, 2, (1, 0))})
-        first = self.found(stream=stream).first_difference()
+        first = self.found(stream=stream).differences()[0]
         self.assertEqual((first.name, first.seen), ("set 0 way 0", ("tag 1", "tag 1, dirty")))
 
     def test_different_map(self):
         stream = STRUCK_STREAM[: -len(block(BOTH, 0, {0: Row(1, 0, 2, (1, 0))}))]
         stream += block({0: (1, 0), 1: (2, 2)}, 0, {0: Row(1, 0, 2, (1, 0))})
-        first = self.found(stream=stream).first_difference()
-        self.assertEqual((first.name, first.seen), ("fill map", ("0", "none")))
+        first = self.found(stream=stream).differences()[0]
+        self.assertEqual((first.name, first.seen), ("fill map", ("way0", "none")))
 
     def test_steps_that_do_not_pair(self):
-        with self.assertRaises(UserError):
+        with self.assertRaises(MachineFailure):
             compare(WHOLE_RUN, run_of(Trace(1, 2, 1, ()), b"1 2 1 0\n", FRESH), 0)
+
+
+class Counted(unittest.TestCase):
+    """All differences are counted, and the first few are told."""
+
+    SETS, WAYS = 8, 2
+
+    def run_of(self, dirty: int) -> Run:
+        policy = Step(0, 16, 0x3_0003)
+        fresh = {number: Row(0, 0, 0, (0, 0)) for number in range(self.SETS)}
+        last = {number: Row(3, dirty, 0, (1, 2)) for number in range(self.SETS)}
+        stream = block({}, 0, fresh) + block({0: (3, 3)}, 0, last)
+        listed = b"8 2 0 1\n0 policy 0 0\ndomain 0 0 0 0 0 0\n"
+        return run_of(Trace(self.SETS, self.WAYS, 0, (policy,)), listed, stream)
+
+    def test_every_line_counts(self):
+        whole, struck = self.run_of(0), self.run_of(3)
+        found = compare(whole, struck, 0)
+        self.assertEqual(len(found.differences()), self.SETS * self.WAYS)
+        told = isolate.render("t.trace", 0, whole, struck, found, Paint(False))
+        hidden = self.SETS * self.WAYS - isolate.MOST_ENDINGS
+        self.assertEqual(told.count("\n*  set "), isolate.MOST_ENDINGS)
+        self.assertIn(f"\n*  and {hidden} more differences\n", told)
+        self.assertIn("\n16 differences: domain 0 does not see the same in both runs.\n", told)
+        self.assertEqual(told.count("difference: at the end, set "), isolate.MOST_TOLD)
+        self.assertTrue(told.endswith(f"\nAnd {16 - isolate.MOST_TOLD} more.\n"), told)
+
+    def test_no_more_than_there_are(self):
+        found = compare(self.run_of(0), self.run_of(1), 0)
+        self.assertEqual(len(found.differences()), self.SETS)
+        self.assertEqual([ending.name for ending in found.differences()[:2]], ["set 0 way 0", "set 1 way 0"])
+
+
+def lines_of(steps: tuple[Step, ...]) -> bytes:
+    """Write steps as the purger does."""
+    return "".join(f"{step.domain} {step.kind} {step.argument}\n" for step in steps).encode()
+
+
+class StruckOut(unittest.TestCase):
+    """The purger's list is held against the steps that are to be kept."""
+
+    def refused(self, lines: bytes, domain: int = 0) -> str:
+        with self.assertRaises(MachineFailure) as caught:
+            struck.kept(WHOLE, domain, lines)
+        return str(caught.exception)
+
+    def test_the_struck_out_list(self):
+        self.assertEqual(struck.kept(WHOLE, 0, lines_of(STRUCK.steps)), STRUCK)
+        kinds = tuple(Step(domain, kind, 7) for domain in (0, 1, 16, 255) for kind in (0, 3, 4, 15, 16, 17, 255))
+        kept = tuple(step for step in kinds if step.domain == 1 or step.kind > 3)
+        self.assertEqual(struck.kept(Trace(1, 2, 0, kinds), 1, lines_of(kept)).steps, kept)
+        self.assertEqual(struck.kept(Trace(1, 2, 0, ()), 3, b"").steps, ())
+
+    def test_a_purger_that_keeps_or_drops_too_much(self):
+        says = "target/bin/purger did not give the struck-out list of domain 0: "
+        self.assertEqual(
+            self.refused(lines_of(WHOLE.steps)), f"{says}its step 2 is '1 load 0x0', and should be '0 load 0x0'"
+        )
+        self.assertEqual(self.refused(b""), f"{says}it ends after 0 steps, and '0 policy hit=way0 fill=way0' should follow")
+        self.assertEqual(
+            self.refused(lines_of(STRUCK.steps[:-1])), f"{says}it ends after 4 steps, and '0 load 0x40' should follow"
+        )
+        self.assertEqual(
+            self.refused(lines_of((*STRUCK.steps, STEPS[2]))), f"{says}it should end after 5 steps, and '1 load 0x0' follows"
+        )
+        swapped = (STRUCK.steps[1], STRUCK.steps[0], *STRUCK.steps[2:])
+        self.assertIn("its step 0 is '1 policy", self.refused(lines_of(swapped)))
+
+    def test_lines_that_are_none(self):
+        good = lines_of(STRUCK.steps)
+        for size in range(len(good)):
+            self.refused(good[:size])
+        self.assertIn("it breaks off within line 5, '0 1 64'", self.refused(good[:-1]))
+        for lines in (b"\n", b"0 1\n", b"0 1 +64\n", b"0 1 6_4\n", b"0  1 64\n", b"0 1 64 \n", b"0 1 64\r\n", b"\xff\n"):
+            self.assertIn("and should be a domain, a kind and an argument", self.refused(lines))
 
 
 class Command(unittest.TestCase):
     """The command with programs that answer by rote."""
 
-    def isolate(self, struck_listing: bytes) -> tuple[int, bytes, str]:
-        whole, struck = tracefile.encode(WHOLE), tracefile.encode(STRUCK)
-        lines = "".join(f"{step.domain} {step.kind} {step.argument}\n" for step in STRUCK.steps).encode()
+    def isolate(self, struck_listing: bytes, kept: tuple[Step, ...] = STRUCK.steps) -> tuple[int, bytes, str]:
+        whole, struck_file = tracefile.encode(WHOLE), tracefile.encode(STRUCK)
         said = {
-            "lister": {whole: WHOLE_LISTING, struck: struck_listing}.__getitem__,
-            "stepper": {whole: WHOLE_STREAM, struck: STRUCK_STREAM}.__getitem__,
-            "purger": lambda data, domain: {(whole, 0): lines}[data, domain],
+            "lister": {whole: WHOLE_LISTING, struck_file: struck_listing}.__getitem__,
+            "stepper": {whole: WHOLE_STREAM, struck_file: STRUCK_STREAM}.__getitem__,
+            "purger": lambda data, domain: {(whole, 0): lines_of(kept)}[data, domain],
         }
-        with mock.patch.multiple(programs, **said):
+        with by_rote(**said):
             return call("isolate", "-", "0", stdin=whole)
+
+    def test_a_purger_that_keeps_all(self):
+        status, out, err = self.isolate(STRUCK_LISTING, STEPS)
+        self.assertEqual((status, out), (3, b""))
+        self.assertIn("dipperlock: target/bin/purger did not give the struck-out list of domain 0: its step 2 is", err)
+
+    def test_a_lister_that_refuses_the_struck_out_trace(self):
+        status, out, err = self.isolate(b"refused 1\n")
+        self.assertEqual((status, out), (3, b""))
+        self.assertIn("target/bin/lister takes the trace, but the struck-out trace is refused by 1", err)
 
     def test_status(self):
         status, out, err = self.isolate(STRUCK_LISTING)

@@ -1,8 +1,10 @@
 """What the programs say, taken apart: listings and stepper streams."""
+from __future__ import annotations
+
 import unittest
 
 from frontend import listing, stepper, tracefile, words
-from frontend.errors import UserError
+from frontend.errors import MachineFailure
 from frontend.listing import Answer
 from frontend.stepper import Row
 from frontend.tests import case_a
@@ -35,11 +37,55 @@ class Listings(unittest.TestCase):
             b"1 4 0 1\n0 hit\n",
             b"1 4 0 1\n0 evict 0 0\n",
             b"1 4 0 1\n0  pass\n",
+            b"1 4 0 1\n0 look 0\n",
+            b"1 4 0 1\n0 hit 00\n",
             b"1 4 0 0\nrealm 0 1 2 3 4 5\n",
+            b"1 4 0 0\ndomain 0 1 2 3 4\n",
+            b"1 4 0 0\ndomain 0 1 2 3 4 5 6\n",
+            b"1 4 0 0\ndomain 16 1 2 3 4 5\n",
+            b"1 4 0 0\ndomain 1 1 2 3 4 5\ndomain 0 1 2 3 4 5\n",
+            b"1 4 0 0\ndomain 1 1 2 3 4 5\ndomain 1 1 2 3 4 5\n",
+            b"1 4 0 0\n\n",
+            b"1 4 0 0\r\n",
+            b"1 4 0 99999999999999999999\n",
+            b"refused 7\n",
+            b"refused 10\nrefused 10\n",
+            b"refused 10 \n",
             b"\xff\xfe",
+            b"\xff\xfe\n",
         ):
-            with self.assertRaises(UserError, msg=data):
+            with self.assertRaises(MachineFailure, msg=data):
                 listing.parse(data)
+
+    def test_no_beginning_of_a_listing_is_whole(self):
+        trace = tracefile.decode(case_a.FILE)
+        listing.check(listing.parse(case_a.LISTING), trace)
+        for size in range(len(case_a.LISTING)):
+            with self.assertRaises(MachineFailure, msg=size):
+                listing.check(listing.parse(case_a.LISTING[:size]), trace)
+
+    def test_where_it_is_not_whole(self):
+        trace = tracefile.decode(case_a.FILE)
+        for data, what in (
+            (b"", "it is empty"),
+            (case_a.LISTING[:-1], "it breaks off within line 12, 'domain 1 0 1 0 0 0'"),
+            (case_a.LISTING[:34], "it says 9 steps, and ends after the lines of 2"),
+            (case_a.LISTING.replace(b"4 fill", b"4 fil"), "line 6 is '4 fil 2', and should be the answer to step 4"),
+            (case_a.LISTING.replace(b"1 4 0 9", b"2 4 0 9"), "its first line is '2 4 0 9', and the file's numbers are '1 4 0 9'"),
+            (case_a.LISTING[:-19], "its domain lines are those of 0, and by its own answers 0, 1 have ways at the end"),
+            (case_a.LISTING + b"x\n", "line 13 is 'x', and should be a domain and its five counts, or the end"),
+            (b"refused 10\n", "it is 'refused 10', and the file has the length of a trace file"),
+        ):
+            with self.assertRaises(MachineFailure, msg=data) as caught:
+                listing.check(listing.parse(data), trace)
+            self.assertIn(f"target/bin/lister did not give a whole listing of this trace: {what}", str(caught.exception))
+
+    def test_a_file_that_is_no_trace_is_refused_by_ten(self):
+        listing.check(listing.parse(b"refused 10\n"), None)
+        for data in (b"refused 1\n", case_a.LISTING):
+            with self.assertRaises(MachineFailure):
+                listing.check(listing.parse(data), None)
+        listing.check(listing.parse(b"refused 1\n"), Trace(3, 4, 0, ()))
 
 
 class Streams(unittest.TestCase):
@@ -59,15 +105,15 @@ class Streams(unittest.TestCase):
         fresh, after = block({}, 0, rows), block({}, 1, {1: Row(1, 0, 0, (9, (1 << 64) - 1))})
         self.assertEqual(len(stepper.parse(fresh + after, trace)), 2)
         for data, reason in (
-            (b"", "ends within block 0"),
-            (fresh, "ends within block 1"),
-            (fresh + after[:-1], "ends within block 1"),
+            (b"", "breaks off within block 0 of 2"),
+            (fresh, "breaks off within block 1 of 2"),
+            (fresh + after[:-1], "breaks off within block 1 of 2"),
             (fresh + after + b"\0", "goes on after the 2 blocks"),
             (after + fresh, "not those of 2 sets"),
             (fresh + block({}, 2), "not those of 2 sets"),
             (fresh + block({}, 0, {7: rows[0]}), "not those of 2 sets"),
         ):
-            with self.assertRaises(UserError) as caught:
+            with self.assertRaises(MachineFailure) as caught:
                 stepper.parse(data, trace)
             self.assertIn(reason, str(caught.exception))
 
@@ -105,7 +151,7 @@ class Words(unittest.TestCase):
             (Step(1, 1, 64), "domain 1 loads at 0x40"),
             (Step(2, 2, 1 << 32), "domain 2 stores at 0x1_0000_0000"),
             (Step(3, 3, 64), "domain 3 flushes 0x40"),
-            (Step(4, 16, 0x1_0003), "domain 4 asks for hit map 0,1 and fill map 0"),
+            (Step(4, 16, 0x1_0003), "domain 4 asks for hit map 0,1 and fill map way0"),
             (Step(5, 16, 0), "domain 5 asks for two empty maps, to be removed"),
             (Step(6, 16, 1 << 40), "domain 6 asks for the policy of argument 0x100_0000_0000"),
             (Step(99, 7, 5), "domain 99 does kind 7 with argument 0x5"),

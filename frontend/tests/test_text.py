@@ -1,4 +1,6 @@
 """The readable form: what it says, and that it goes there and back."""
+from __future__ import annotations
+
 import random
 import struct
 import unittest
@@ -7,7 +9,7 @@ from frontend import maps, numbers, text, tracefile
 from frontend.assembler import assemble
 from frontend.programs import ROOT
 from frontend.tests import case_a
-from frontend.tests.helpers import random_trace
+from frontend.tests.helpers import random_bytes, random_trace
 from frontend.tracefile import Step, Trace
 
 HEADER = "sets 1\nways 4\nrule tree\n"
@@ -28,7 +30,7 @@ class RoundTrip(unittest.TestCase):
     def test_random_bytes(self):
         source = random.Random(3)
         for count in (0, 1, 5, 400):
-            self.there_and_back(source.randbytes(4) + struct.pack("<I", count) + source.randbytes(10 * count))
+            self.there_and_back(random_bytes(source, 4) + struct.pack("<I", count) + random_bytes(source, 10 * count))
 
     def test_random_traces(self):
         source = random.Random(4)
@@ -83,9 +85,10 @@ class Forms(unittest.TestCase):
             ("hit=0,1 fill=0,1", 0x0003_0003),
             ("hit=0-3 fill=none", 0x0000_000F),
             ("hit=0x3 fill=0x1", 0x0001_0003),
-            ("hit=3 fill=0b1000", 0x0008_0008),
-            ("hit=0-2,5,7-15 fill=15", 0x8000_FFA7),
-            ("fill=2 hit=2,3", 0x0004_000C),
+            ("hit=way3 fill=0b1000", 0x0008_0008),
+            ("hit=3-3 fill=0x8", 0x0008_0008),
+            ("hit=0-2,5,7-15 fill=way15", 0x8000_FFA7),
+            ("fill=way2 hit=2,3", 0x0004_000C),
             ("arg=0x1_0000_0003", 0x1_0000_0003),
             ("hit=none fill=none", 0),
         ):
@@ -119,6 +122,7 @@ class Parts(unittest.TestCase):
         self.assertEqual(numbers.parse("0" * 10_000 + "5"), 5)
 
     def test_maps(self):
-        for word in (0, 1, 3, 7, 0x8000, 0xFFFF, 0x5555, 0xA0F3):
+        for word in range(1 << 16):
             self.assertEqual(maps.parse(maps.write(word)), word)
-        self.assertEqual([maps.write(word) for word in (0, 3, 7, 0b110111)], ["none", "0,1", "0-2", "0-2,4,5"])
+        written = ["none", "way0", "way3", "0,1", "0-2", "0-2,4,5"]
+        self.assertEqual([maps.write(word) for word in (0, 1, 8, 3, 7, 0b110111)], written)

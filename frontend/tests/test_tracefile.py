@@ -1,11 +1,13 @@
 """The binary form."""
+from __future__ import annotations
+
 import random
 import struct
 import unittest
 
 from frontend import tracefile
 from frontend.tests import case_a
-from frontend.tests.helpers import random_trace
+from frontend.tests.helpers import random_bytes, random_trace
 from frontend.tracefile import BadTraceFile, Step, Trace
 
 
@@ -22,7 +24,7 @@ class TraceFile(unittest.TestCase):
     def test_round_trip_of_random_bytes(self):
         source = random.Random(1)
         for count in (0, 1, 2, 17, 300):
-            data = source.randbytes(4) + struct.pack("<I", count) + source.randbytes(10 * count)
+            data = random_bytes(source, 4) + struct.pack("<I", count) + random_bytes(source, 10 * count)
             self.assertEqual(tracefile.encode(tracefile.decode(data)), data)
 
     def test_round_trip_of_traces(self):
@@ -37,7 +39,8 @@ class TraceFile(unittest.TestCase):
 
     def test_too_many_steps(self):
         data = tracefile.encode(Trace(1, 2, 0, (Step(0, 0, 0),) * 4097))
-        self.assert_refused(data, "4,097 steps, and the most is 4,096")
+        self.assert_refused(data, "its header says 4,097 steps, and the most is 4,096")
+        self.assert_refused(data[:40_969], "its header says 4,097 steps, and the most is 4,096")
 
     def test_under_eight_bytes(self):
         self.assert_refused(b"", "0 bytes, and the header alone has 8")
@@ -47,6 +50,7 @@ class TraceFile(unittest.TestCase):
     def test_wrong_length(self):
         self.assert_refused(case_a.FILE[:-1], "8 + 10 x 9 = 98 bytes; it has 97")
         self.assert_refused(case_a.FILE + b"x", "= 98 bytes; it has 99")
+        self.assert_refused(case_a.FILE + bytes(50_000), "8 + 10 x 9 = 98 bytes; it has more than 40968")
         self.assert_refused(b"\xff" * 8, "4,294,967,295 steps, so its length is to be 8 + 10 x 4294967295")
 
     def assert_refused(self, data: bytes, reason: str) -> None:
