@@ -111,4 +111,15 @@ def _lines(whole: Run, struck: Run, domain: int) -> list[Ending]:
     return different or [Ending((f"{valid} valid", f"{valid} valid"), "lines in its ways")]
 
 
-_AT_THE_END = (_counts, _maps, _lines)  # whatever else is compared at the end is one more function here
+def _own_bits(whole: Run, struck: Run, domain: int) -> list[Ending]:
+    """Compare the domain's own replacement bits, set by set: each set that differs, or how many bits are one."""
+    endings = [
+        Ending((f"{left:#x}", f"{right:#x}"), f"own replacement bits of set {number}")
+        for number, (left, right) in enumerate(zip(whole.own, struck.own))
+    ]
+    different = [ending for ending in endings if not ending.same]
+    ones = sum(bin(part).count("1") for part in whole.own)
+    return different or [Ending((f"{ones} one", f"{ones} one"), "own replacement bits")]
+
+
+_AT_THE_END = (_counts, _maps, _lines, _own_bits)  # whatever else is compared at the end is one more function here

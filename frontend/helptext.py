@@ -54,11 +54,11 @@ byte for byte. A file that is refused by 10 cannot be shown; the reason is told.
 ISOLATE = """\
 Run a trace, and the trace with the accesses and flushes of all other domains
 struck out (by target/bin/purger), and show side by side what DOMAIN sees: the
-answers to its steps; at the end its line of the listing, its maps and the lines
-in its ways; and whether the policy changes of other domains are accepted. That
-these are equal for every trace is the theorem in docs/CLAIMS.md. It covers the
-domain's own replacement bits too, which are not compared here. That the purger's
-list is the struck-out list is checked, step by step.
+answers to its steps; at the end its line of the listing, its maps, the lines in
+its ways and its own replacement bits (by target/bin/parts); and whether the
+policy changes of other domains are accepted. That these are equal for every
+trace is the first claim of docs/CLAIMS.md. That the purger's list is the
+struck-out list is checked, step by step.
 
 FILE is as for list. Exit status: 0 no difference, 1 a difference; the others are
 those of 'dipperlock --help'.

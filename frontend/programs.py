@@ -16,7 +16,7 @@ from frontend.streams import tell
 
 ROOT = Path(__file__).resolve().parent.parent
 BIN = ROOT / "target" / "bin"
-NAMES = ("lister", "purger", "stepper")
+NAMES = ("lister", "purger", "stepper", "parts")
 _MOST_SAID = 2000  # characters of what a program says on standard error that are passed on
 
 
@@ -33,6 +33,11 @@ def purger(trace: bytes, domain: int) -> bytes:
 def stepper(trace: bytes) -> bytes:
     """Give the stream of what each step leaves in the maps and rows."""
     return _run("stepper", (), trace)
+
+
+def parts(entries: bytes) -> bytes:
+    """Give the own parts of replacement words, a line for each. They stand in a trace file: a fill map for a code, a word for an argument."""
+    return _run("parts", (), entries)
 
 
 def amiss(name: str) -> str | None:

@@ -1,13 +1,13 @@
 """A trace run: what the file says, and what the lister and the stepper say of it."""
 from __future__ import annotations
 
-from dataclasses import dataclass
+from dataclasses import dataclass, replace
 
-from frontend import files, listing, programs, source, stepper, tracefile, words
+from frontend import files, listing, parts, programs, source, stepper, tracefile, words
 from frontend.errors import BadInput
 from frontend.listing import Listing
 from frontend.stepper import Block
-from frontend.tracefile import Trace
+from frontend.tracefile import Step, Trace
 
 _GEOMETRY, _FILE = 1, 10  # the numbers by which a whole file is refused
 _UTF_16 = (b"\xff\xfe", b"\xfe\xff")  # how a text begins that two bytes write a character of
@@ -15,11 +15,12 @@ _UTF_16 = (b"\xff\xfe", b"\xfe\xff")  # how a text begins that two bytes write a
 
 @dataclass(frozen=True)
 class Run:
-    """A trace, its listing, and the blocks of its stepper stream."""
+    """A trace, its listing, the blocks of its stepper stream, and a domain's own part of each set's word, where that was asked for."""
 
     trace: Trace
     listing: Listing
     blocks: list[Block]
+    own: tuple[int, ...] = ()
 
 
 def take(name: str, data: bytes) -> Run:
@@ -29,6 +30,14 @@ def take(name: str, data: bytes) -> Run:
     if listed.refused is not None:
         raise BadInput(why_refused(name, data, listed.refused))
     return Run(trace, listed, stepper.parse(programs.stepper(data), trace))
+
+
+def with_own(run: Run, domain: int) -> Run:
+    """Add a domain's own part of each set's replacement word at the end; which part that is, is the rule's matter, and a program says it."""
+    rows, fill = stepper.rows_at_end(run.blocks), run.blocks[-1].fill[domain]
+    entries = tuple(Step(fill & 0xFF, fill >> 8, rows[number].word) for number in sorted(rows))
+    asked = tracefile.encode(replace(run.trace, steps=entries))
+    return replace(run, own=parts.parse(programs.parts(asked), len(entries)))
 
 
 def listing_of(data: bytes) -> tuple[bytes, Listing]:

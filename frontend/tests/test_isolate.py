@@ -75,6 +75,8 @@ def run_of(trace: Trace, listed: bytes, stream: bytes) -> Run:
 
 
 WHOLE_RUN = run_of(WHOLE, WHOLE_LISTING, WHOLE_STREAM)
+# Domain 0 has fill map 1 at the end of both runs, and the one set's word is 0, and 2 in the struck-out run.
+PARTS_ASKED = tuple(tracefile.encode(Trace(1, 2, 1, (Step(1, 0, word),))) for word in (0, 2))
 
 
 class Compare(unittest.TestCase):
@@ -228,12 +230,15 @@ class StruckOut(unittest.TestCase):
 class Command(unittest.TestCase):
     """The command with programs that answer by rote."""
 
-    def isolate(self, struck_listing: bytes, kept: tuple[Step, ...] = STRUCK.steps) -> tuple[int, bytes, str]:
+    def isolate(
+        self, struck_listing: bytes, kept: tuple[Step, ...] = STRUCK.steps, said_parts: tuple[bytes, bytes] = (b"0\n", b"0\n")
+    ) -> tuple[int, bytes, str]:
         whole, struck_file = tracefile.encode(WHOLE), tracefile.encode(STRUCK)
         said = {
             "lister": {whole: WHOLE_LISTING, struck_file: struck_listing}.__getitem__,
             "stepper": {whole: WHOLE_STREAM, struck_file: STRUCK_STREAM}.__getitem__,
             "purger": lambda data, domain: {(whole, 0): lines_of(kept)}[data, domain],
+            "parts": lambda entries: {PARTS_ASKED[0]: said_parts[0], PARTS_ASKED[1]: said_parts[1]}[entries],
         }
         with by_rote(**said):
             return call("isolate", "-", "0", stdin=whole)
@@ -247,6 +252,18 @@ class Command(unittest.TestCase):
         status, out, err = self.isolate(b"refused 1\n")
         self.assertEqual((status, out), (3, b""))
         self.assertIn("target/bin/lister takes the trace, but the struck-out trace is refused by 1", err)
+
+    def test_own_bits_that_differ(self):
+        status, out, err = self.isolate(STRUCK_LISTING, said_parts=(b"0\n", b"1\n"))
+        self.assertEqual((status, err), (1, ""))
+        self.assertIn(b"own replacement bits of set 0", out)
+        self.assertIn(b"'0x0' in the whole run, '0x1' in the struck-out run", out)
+
+    def test_parts_that_are_not_whole(self):
+        for answer in (b"", b"0", b"0\n0\n", b"refused 5\n", b"-1\n", b"\n", b"\xff\n"):
+            status, out, err = self.isolate(STRUCK_LISTING, said_parts=(answer, b"0\n"))
+            self.assertEqual((status, out), (3, b""), answer)
+            self.assertIn("target/bin/parts did not give", err)
 
     def test_status(self):
         status, out, err = self.isolate(STRUCK_LISTING)

@@ -92,6 +92,52 @@ class Longest(unittest.TestCase):
 
 
 @needs_programs
+class Bare(unittest.TestCase):
+    """The programs run without the front end: what they tell on standard error where a read or a write fails."""
+
+    COMMANDS = (("lister",), ("purger", "0"), ("stepper",), ("parts",))
+
+    def told(self, command: tuple[str, ...], redirections: str) -> tuple[bytes, bytes]:
+        """Give what a program writes and tells, run by a shell with these redirections."""
+        line = f"exec {shlex.quote(str(programs.BIN / command[0]))} {' '.join(command[1:])} {redirections}"
+        job = subprocess.run(("sh", "-c", line), input=case_a.FILE, stdout=subprocess.PIPE, stderr=subprocess.PIPE, check=True)
+        return job.stdout, job.stderr
+
+    def test_a_failed_read_is_told_and_nothing_is_written(self):
+        for command in self.COMMANDS:
+            for redirection in ("<&-", "< /"):
+                message = f"{command[0]}: standard input could not be read to its end\n".encode()
+                self.assertEqual(self.told(command, redirection), (b"", message), (command, redirection))
+
+    def test_a_failed_write_is_told(self):
+        for command in self.COMMANDS:
+            for redirection in ("> /dev/full", ">&-"):
+                message = f"{command[0]}: standard output could not be written\n".encode()
+                self.assertEqual(self.told(command, redirection)[1], message, (command, redirection))
+
+    def test_a_whole_run_tells_nothing(self):
+        for command in self.COMMANDS:
+            out, err = self.told(command, "")
+            self.assertEqual((out != b"", err), (True, b""), command)
+
+    def test_the_purger_wants_a_domain(self):
+        for argument in ("", "16", "x", "-1", "007", "1000"):
+            message = b"purger: the first argument has to be a domain, 0 to 15\n"
+            self.assertEqual(self.told(("purger", argument), ""), (b"", message), argument)
+
+
+@needs_programs
+class OwnParts(unittest.TestCase):
+    """The own part of replacement words, by the proved call."""
+
+    def test_free_nodes_and_nru_bits(self):
+        words = tuple(Step(map_ & 0xFF, map_ >> 8, (1 << 64) - 1) for map_ in (12, 5, 255, 1, 0, 256))
+        self.assertEqual(programs.parts(tracefile.encode(Trace(1, 8, 0, words))), b"16\n2\n127\n0\n0\nrefused 5\n")
+        self.assertEqual(programs.parts(tracefile.encode(Trace(1, 8, 1, words))), b"12\n5\n255\n1\n0\nrefused 5\n")
+        self.assertEqual(programs.parts(tracefile.encode(Trace(3, 8, 1, words))), b"refused 1\n")
+
+
+@needs_programs
 class Examples(unittest.TestCase):
     """Everything that is printed as an example."""
 
