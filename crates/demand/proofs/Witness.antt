@@ -8,7 +8,26 @@ use Rattle.command.specs.Command.{Command}
 use Rattle.geometry.specs.declared.Geometry.{Geometry}
 use Rattle.steps.proofs.Computing.{computing, does, both}
 use Rattle.demand.specs.Free.{digit, someIn, freeFrom, isFree}
-use Rattle.demand.specs.Demand.{fresh, events, end, struckOut, ownAnswers, accepted, refused, verdictOf, verdicts, domainAt, each, lines, isOwn, bits, Seen, seen, seenIn, Indistinguishable}
+use Rattle.demand.specs.Demand.{
+  fresh,
+  events,
+  end,
+  struckOut,
+  ownAnswers,
+  accepted,
+  refused,
+  verdictOf,
+  verdicts,
+  domainAt,
+  each,
+  lines,
+  isOwn,
+  bits,
+  Seen,
+  seen,
+  seenIn,
+  Indistinguishable,
+}
 
 -- ---- two sets of four ways under Tree-PLRU
 

@@ -135,7 +135,9 @@ module _ (g : Geometry) (l : Limited g) (d : ℕ) (low : d < 16) (e : ℕ) (k : 
     policy-same = λ f.
         cases (eqb f e)
         (λ t. rw (eqb-true f e t) (changed-policy g e k arg a (rel .whole-a) ∙ sym (changed-policy g e k arg b (rel .whole-b))))
-        (λ t. changed-policy-other g e k arg a (rel .whole-a) f (eqb-false f e t) ∙ rel .policy-same f ∙ sym (changed-policy-other g e k arg b (rel .whole-b) f (eqb-false f e t)));
+        (λ t.
+        changed-policy-other g e k arg a (rel .whole-a) f (eqb-false f e t) ∙ rel .policy-same f
+        ∙ sym (changed-policy-other g e k arg b (rel .whole-b) f (eqb-false f e t)));
     separate = separate-after;
     domain-same =
         cases (eqb d e)
@@ -144,12 +146,14 @@ module _ (g : Geometry) (l : Limited g) (d : ℕ) (low : d < 16) (e : ℕ) (k : 
         (changed-domain g e k arg a (rel .whole-a)
         ∙ ap (newDomain arg) (subst (λ (i : ℕ). domainOf (a .domains) i ≡ domainOf (b .domains) i) (eqb-true d e t) (rel .domain-same))
         ∙ sym (changed-domain g e k arg b (rel .whole-b))))
-        (λ t. changed-other g e k arg a (rel .whole-a) d (eqb-false d e t) ∙ rel .domain-same ∙ sym (changed-other g e k arg b (rel .whole-b) d (eqb-false d e t)));
+        (λ t.
+        changed-other g e k arg a (rel .whole-a) d (eqb-false d e t) ∙ rel .domain-same
+        ∙ sym (changed-other g e k arg b (rel .whole-b) d (eqb-false d e t)));
     alike = λ s h.
         rw (changed-row g e k arg a (rel .whole-a) s h, changed-row g e k arg b (rel .whole-b) s h, ← (rel .policy-same e))
         (clean-alike g l d low policy (policy-cut W (a .domains)) (rel .separate) e k next
-        (policies (g .ways) (changePolicy g e arg a .state .domains)) (changed-policy g e k arg a (rel .whole-a)) (changed-policy-other g e k arg a (rel .whole-a))
-        (rowAt (g .ways) s (a .tables)) (rowAt (g .ways) s (b .tables)) (rel .alike s h));
+        (policies (g .ways) (changePolicy g e arg a .state .domains)) (changed-policy g e k arg a (rel .whole-a))
+        (changed-policy-other g e k arg a (rel .whole-a)) (rowAt (g .ways) s (a .tables)) (rowAt (g .ways) s (b .tables)) (rel .alike s h));
   }
 
   -- ---- and the domain's own change answers the same
@@ -172,6 +176,6 @@ module _ (g : Geometry) (l : Limited g) (d : ℕ) (low : d < 16) (e : ℕ) (k : 
           × (droppedDirty (policy e) next (rowAt (g .ways) s (a .tables)) ≡ droppedDirty (policy e) next (rowAt (g .ways) s (b .tables)))
       drops s h =
           own-drops g l d low policy (policy-cut W (a .domains)) (rel .separate) e k next
-          (policies (g .ways) (changePolicy g e arg a .state .domains)) (changed-policy g e k arg a (rel .whole-a)) (changed-policy-other g e k arg a (rel .whole-a))
-          (rowAt (g .ways) s (a .tables)) (rowAt (g .ways) s (b .tables)) (rel .alike s h) own gains
+          (policies (g .ways) (changePolicy g e arg a .state .domains)) (changed-policy g e k arg a (rel .whole-a))
+          (changed-policy-other g e k arg a (rel .whole-a)) (rowAt (g .ways) s (a .tables)) (rowAt (g .ways) s (b .tables)) (rel .alike s h) own gains
           (row-long g (rel .whole-a .shaped) s h) (row-long g (rel .whole-b .shaped) s h)

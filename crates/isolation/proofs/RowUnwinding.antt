@@ -16,7 +16,18 @@ use Rattle.sweep.specs.Clean.{moved, cleaned, dropped, droppedDirty}
 use Rattle.row.specs.View.{SameLine, SameView}
 use Rattle.policy.specs.declared.Maps.{Maps}
 use Rattle.policy.proofs.ReadLaws.{Cut}
-use Rattle.row.proofs.LineLaws.{line-trans, access-leaves, access-stays, access-agrees, access-view, access-answer, flush-leaves, flush-word, flush-agrees, flush-answer}
+use Rattle.row.proofs.LineLaws.{
+  line-trans,
+  access-leaves,
+  access-stays,
+  access-agrees,
+  access-view,
+  access-answer,
+  flush-leaves,
+  flush-word,
+  flush-agrees,
+  flush-answer,
+}
 use Rattle.sweep.proofs.CleanLaws.{clean-gone, clean-agrees, drops-same, dirty-drops-same}
 use Rattle.geometry.specs.Inside.{Limited}
 use Rattle.geometry.specs.declared.Geometry.{Geometry}

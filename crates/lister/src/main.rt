@@ -1,5 +1,6 @@
 // Writes the listing of the trace file on standard input to standard output. A failed read or write is told on standard error, and a file
 // that was not read to its end is not listed.
+use libc::STDERR_FILENO;
 use libc::STDOUT_FILENO;
 
 // Lists a file, and answers whether the whole listing was written.
@@ -28,8 +29,14 @@ fn main() {
         if show(&file[..count]) {
             return;
         }
-        streams::tell(b"lister: standard output could not be written\n");
+        io::write_all(
+            STDERR_FILENO,
+            b"lister: standard output could not be written\n",
+        );
         return;
     }
-    streams::tell(b"lister: standard input could not be read to its end\n");
+    io::write_all(
+        STDERR_FILENO,
+        b"lister: standard input could not be read to its end\n",
+    );
 }

@@ -1,6 +1,7 @@
 // Writes the own part of replacement words, a line for each. Standard input has the form of a trace file: its ways and rule are those of the
 // words, the code of entry i is a fill map, and its argument a word. An entry whose map reaches the number of ways gives `refused 5`, and a
 // file that is refused gives the one line `refused` and its number. A failed read or write is told on standard error.
+use libc::STDERR_FILENO;
 use libc::STDOUT_FILENO;
 use replacement::Reply;
 
@@ -58,8 +59,14 @@ fn main() {
         if show_file(&file[..count]) {
             return;
         }
-        streams::tell(b"parts: standard output could not be written\n");
+        io::write_all(
+            STDERR_FILENO,
+            b"parts: standard output could not be written\n",
+        );
         return;
     }
-    streams::tell(b"parts: standard input could not be read to its end\n");
+    io::write_all(
+        STDERR_FILENO,
+        b"parts: standard input could not be read to its end\n",
+    );
 }

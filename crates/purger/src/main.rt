@@ -1,6 +1,7 @@
 // Writes the steps that are left of the trace file on standard input when the purge of a domain strikes out the others' accesses and
 // flushes: a line for each step, with its domain, kind and argument. The domain is the first argument. A file that is refused by 10 gives
 // nothing. An argument that is no number below 16, and a failed read or write, are told on standard error.
+use libc::STDERR_FILENO;
 use libc::STDOUT_FILENO;
 ghost use Prim.Native.Nat.{_≤_};
 ghost use lib.ListN.{length};
@@ -154,10 +155,16 @@ fn purge_input(domain: usize) {
         if show_file(&file[..count], domain) {
             return;
         }
-        streams::tell(b"purger: standard output could not be written\n");
+        io::write_all(
+            STDERR_FILENO,
+            b"purger: standard output could not be written\n",
+        );
         return;
     }
-    streams::tell(b"purger: standard input could not be read to its end\n");
+    io::write_all(
+        STDERR_FILENO,
+        b"purger: standard input could not be read to its end\n",
+    );
 }
 
 fn main() {
@@ -168,5 +175,8 @@ fn main() {
         purge_input(domain);
         return;
     }
-    streams::tell(b"purger: the first argument has to be a domain, 0 to 15\n");
+    io::write_all(
+        STDERR_FILENO,
+        b"purger: the first argument has to be a domain, 0 to 15\n",
+    );
 }

@@ -5,6 +5,7 @@
 // none. A refused file gives nothing. A failed read or write is told on standard error.
 use domains::Domains;
 use geometry::Geometry;
+use libc::STDERR_FILENO;
 use libc::STDOUT_FILENO;
 ghost use mathlib.Core.Path.{_≡_};
 ghost use Prim.Native.Nat.{_+_, _*_, _≤_, _<_};
@@ -332,8 +333,14 @@ fn main() {
         if show_file(&file[..count]) {
             return;
         }
-        streams::tell(b"stepper: standard output could not be written\n");
+        io::write_all(
+            STDERR_FILENO,
+            b"stepper: standard output could not be written\n",
+        );
         return;
     }
-    streams::tell(b"stepper: standard input could not be read to its end\n");
+    io::write_all(
+        STDERR_FILENO,
+        b"stepper: standard input could not be read to its end\n",
+    );
 }

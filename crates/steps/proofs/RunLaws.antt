@@ -132,7 +132,8 @@ module _ (g : Geometry) (limits : within g ≡ true) where
     unfolding decided
     decided-kept n o f = cases (eqb n 0) (λ t. rw t (f (eqb-true n 0 t))) (λ t. rw t kept)
 
-    kind-kept : (y : Kind) → Kept (decided (refusalBy y g (policies (g .ways) (s .domains)) (domainOf (s .domains) e .counts) e arg) (stepBy y g e arg s) s .state)
+    kind-kept : (y : Kind)
+        → Kept (decided (refusalBy y g (policies (g .ways) (s .domains)) (domainOf (s .domains) e .counts) e arg) (stepBy y g e arg s) s .state)
     unfolding refusalBy stepBy
     kind-kept (access store) = decided-kept _ _ (λ z. line-kept false store)
     kind-kept flush = decided-kept _ _ (λ z. line-kept true false)

@@ -1,5 +1,4 @@
-// Standard input, read to its end, and what a program tells on standard error.
-use libc::STDERR_FILENO;
+// Standard input, read to its end.
 use libc::STDIN_FILENO;
 ghost use Rattle.io.specs.Counts.{Counts};
 
@@ -41,9 +40,4 @@ pub fn read_file(file: &mut [u8; 40969]) -> Got
         read_out()
     };
     Got { count, whole }
-}
-
-// Tells on standard error that a read or a write failed. Whether that was written there is nobody left to tell.
-pub fn tell(line: &[u8]) -> bool {
-    io::write_all(STDERR_FILENO, line)
 }

@@ -30,7 +30,8 @@ same-length-2 c = search needs
 returns-2 : tie.Need-returns-2
 unfolding workOf
 returns-2 c =
-    rw (sym (c .before .before .before .before .before .before .flushes .ensures) ∙ c .before .before .before .before .before .if1 .left, ← (c .before .before .before .stores .ensures))
+    let tested = c .before .before .before .before .before in
+    rw (sym (tested .before .flushes .ensures) ∙ tested .if1 .left, ← (c .before .before .before .stores .ensures))
     (c .before .before .access .ensures)
 
 pub on-row-spec : {M : Type 1} → statement M
