@@ -55,10 +55,6 @@ pub decided-no : {n : ℕ} (done : Outcome) (s : State) → (n ≡ 0 → ⊥) �
 unfolding decided
 decided-no {n} done s h = rw (ne-eqb n 0 h)
 
-pub decided-yes : {n : ℕ} (done : Outcome) (s : State) → n ≡ 0 → done ≡ decided n done s
-unfolding decided
-decided-yes {n} done s e = rw e
-
 -- ---- an access or a flush
 
 -- on a row of W tags the call's work is the rule's

@@ -42,8 +42,8 @@ pub fn step(
     if 16 <= domain {
         return account::refused(3, domains);
     }
-    let own = domains.records[domain];
     let asked = command::kind_of(kind);
+    let own = domains.records[domain];
     match asked {
         Asked::Line(usage) => {
             let used = work::line(g, tags, valid, dirty, words, own, usage, argument);

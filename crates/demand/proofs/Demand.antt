@@ -13,10 +13,10 @@ use Rattle.steps.proofs.RunLaws.{run-kept}
 use Rattle.purge.specs.Purge.{purge}
 use Rattle.isolation.specs.StruckOut.{StruckOut}
 use Rattle.isolation.proofs.Isolation.{isolation}
-use Rattle.demand.specs.Demand.{Limits, fresh, events, end, struckOut, seen, seenIn, There, Demand}
+use Rattle.demand.specs.Demand.{Limits, fresh, events, end, struckOut, seen, seenIn, WellFormed, Demand}
 use Rattle.demand.proofs.LimitLaws.{ways-sized, within-limits, fresh-is}
 use Rattle.demand.proofs.RunLaws.{struck-is, end-is, own-is, verdictIn, verdicts-are}
-use Rattle.demand.proofs.SeenLaws.{domain-same, lines-same, bits-same, all-there}
+use Rattle.demand.proofs.SeenLaws.{domain-same, lines-same, bits-same, is-well-formed}
 
 module _ (g : Geometry) (l : Limits g) (d : ℕ) where
   limits : within g ≡ true
@@ -31,8 +31,8 @@ module _ (g : Geometry) (l : Limits g) (d : ℕ) where
   seen-is cs =
       ap (λ (s : State). seen g d (events g cs s) (end g cs s)) (fresh-is g l) ∙ ap (seen g d (events g cs start)) (end-is g cs start)
 
-  there : (cs : List Command) → There g d (end g cs (fresh g))
-  there cs = rw (fresh-is g l, end-is g cs start) (all-there g limits d (finally g cs start) (run-kept g limits cs))
+  formed : (cs : List Command) → WellFormed g d (end g cs (fresh g))
+  formed cs = rw (fresh-is g l, end-is g cs start) (is-well-formed g limits d (finally g cs start) (run-kept g limits cs))
 
   module _ (low : d < 16) (cs : List Command) where
     claim : StruckOut g d cs
@@ -57,4 +57,4 @@ module _ (g : Geometry) (l : Limits g) (d : ℕ) where
 -- Demand 3. For every geometry within the limits, every domain and every list of steps whatever they name and ask for: what the domain is told
 -- and sees is the same in the run of the list and in the run of the struck-out list.
 pub demand : (g : Geometry) → Limits g → (d : ℕ) → d < 16 → (cs : List Command) → Demand g d cs
-demand g l d low cs = record { same = cc (seen-same g l d low cs); there = there g l d cs; there-too = there g l d (struckOut d cs) }
+demand g l d low cs = record { same = cc (seen-same g l d low cs); well-formed = formed g l d cs; well-formed-too = formed g l d (struckOut d cs) }

@@ -26,7 +26,7 @@ use Rattle.steps.proofs.RunLaws.{Kept}
 use Rattle.isolation.specs.StruckOut.{SameTo}
 use Rattle.isolation.proofs.LineUnwinding.{policy-cut}
 use Rattle.demand.specs.Free.{digit, isFree}
-use Rattle.demand.specs.Demand.{domainAt, each, lines, isOwn, bits, There}
+use Rattle.demand.specs.Demand.{domainAt, each, lines, isOwn, bits, WellFormed}
 use Rattle.demand.proofs.FreeLaws.{free-is}
 
 -- ---- numbers, lists and bits
@@ -115,15 +115,15 @@ module _ (g : Geometry) (limits : within g ≡ true) (d : ℕ) where
 
   -- ---- what is compared is there
 
-  pub all-there : (s : State) → Kept g limits s → There g d s
-  all-there s kept = record {
+  pub is-well-formed : (s : State) → Kept g limits s → WellFormed g d s
+  is-well-formed s kept = record {
     tags-long = kept .whole .shaped .tags-long;
     valid-long = kept .whole .shaped .valid-long;
     dirty-long = kept .whole .shaped .dirty-long;
     words-long = kept .whole .shaped .words-long;
     sixteen = kept .whole .sixteen;
-    hit-there = λ w e. cut .within w (set-at (domainAt d s .hit) w e);
-    fill-there = λ w e. digit-one (domainAt d s .hit) w (cut .part w (set-at (domainAt d s .fill) w e));
+    hit-within = λ w e. cut .within w (set-at (domainAt d s .hit) w e);
+    fill-part = λ w e. digit-one (domainAt d s .hit) w (cut .part w (set-at (domainAt d s .fill) w e));
   }
     where
       cut : Cut (g .ways) (mapsOf (domainAt d s))

@@ -26,8 +26,8 @@ pub record Limits (g : Geometry) : Type 0 where
   pub rule-known : g .rule < 2
 
 -- A domain without ways and counts.
-abbrev pub nobody : Domain
-nobody = record { hit = 0; fill = 0; counts = record { hits = 0; misses = 0; evicted = 0; written = 0; flushed = 0 } }
+abbrev pub emptyDomain : Domain
+emptyDomain = record { hit = 0; fill = 0; counts = record { hits = 0; misses = 0; evicted = 0; written = 0; flushed = 0 } }
 
 -- "Fresh: all zero, except that under NRU the low W bits of each replacement word are one. All policies and counts are zero."
 unfoldable pub fresh : Geometry → State
@@ -38,7 +38,7 @@ fresh g = record {
     dirty = replicate (g .sets) 0;
     words = replicate (g .sets) (cond (eqb (g .rule) 1) (2 ^ g .ways - 1) 0);
   };
-  domains = record { records = replicate 16 nobody };
+  domains = record { records = replicate 16 emptyDomain };
 }
 
 -- ---- The run, and the struck-out list
@@ -90,7 +90,7 @@ verdicts d (e ∷ es) =
 
 -- "both its maps and all its counts"
 unfoldable pub domainAt : ℕ → State → Domain
-domainAt d s = getD (s .domains .records) d nobody
+domainAt d s = getD (s .domains .records) d emptyDomain
 
 -- f 0, f 1 and so on, n of them.
 module _ {A : Type 0} where
@@ -134,20 +134,20 @@ seenIn g d cs = seen g d (events g cs (fresh g)) (end g cs (fresh g))
 
 -- Nothing is compared that is not there: the tables have their lengths, there are sixteen domains, and the chosen domain's ways are ways of the
 -- cache, with its fill map a part of its hit map.
-pub record There (g : Geometry) (d : ℕ) (s : State) : Type 0 where
+pub record WellFormed (g : Geometry) (d : ℕ) (s : State) : Type 0 where
   pub tags-long : length (s .tables .tags) ≡ g .sets * g .ways
   pub valid-long : length (s .tables .valid) ≡ g .sets
   pub dirty-long : length (s .tables .dirty) ≡ g .sets
   pub words-long : length (s .tables .words) ≡ g .sets
   pub sixteen : length (s .domains .records) ≡ 16
-  pub hit-there : (w : ℕ) → digit (domainAt d s .hit) w ≡ 1 → w < g .ways
-  pub fill-there : (w : ℕ) → digit (domainAt d s .fill) w ≡ 1 → digit (domainAt d s .hit) w ≡ 1
+  pub hit-within : (w : ℕ) → digit (domainAt d s .hit) w ≡ 1 → w < g .ways
+  pub fill-part : (w : ℕ) → digit (domainAt d s .fill) w ≡ 1 → digit (domainAt d s .hit) w ≡ 1
 
 -- The chosen domain is told and sees the same in the runs of two lists, each from a fresh cache.
 pub record Indistinguishable (g : Geometry) (d : ℕ) (cs ds : List Command) : Type 0 where
   pub same : seenIn g d cs ≡ seenIn g d ds
-  pub there : There g d (end g cs (fresh g))
-  pub there-too : There g d (end g ds (fresh g))
+  pub well-formed : WellFormed g d (end g cs (fresh g))
+  pub well-formed-too : WellFormed g d (end g ds (fresh g))
 
 -- Demand 3 of a list of steps: a list and its struck-out list.
 abbrev pub Demand : Geometry → ℕ → List Command → Type 0

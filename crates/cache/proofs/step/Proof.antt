@@ -51,14 +51,14 @@ returns-2 c =
     (c .before .if2 .taken))
     (λ e. omega arith) (c .refused2 .ensures)
 
+kind-of-requires : tie.Need-kind-of-requires
+kind-of-requires c κs = search needs
+
 mul-own : tie.Need-mul-own
 mul-own c = search needs
 
 element-copy-out-own : tie.Need-element-copy-out-own
 element-copy-out-own c = search needs
-
-kind-of-requires : tie.Need-kind-of-requires
-kind-of-requires c κs = search needs
 
 enum-known-asked : tie.Need-enum-known-asked
 enum-known-asked c = search needs
@@ -104,7 +104,7 @@ unfolding domainOf
 returns-3 c =
     let called = c .before .before .before .before .before .before .before .before .before in
     let told = called .before .before .before .before .before .before in
-    let asked = told .before .before .kind-of in
+    let asked = told .before .before .before .kind-of in
     let sized = told .before .before .before .before .before in
     let entry = sized .before .before .before .before .before .before in
     let last = called .line .last .1 in
@@ -131,7 +131,7 @@ returns-4 c =
     let called = c .before .before .before .before .before .before .before .before .before in
     let gathered = called .before .before .before .before .before in
     let chosen = gathered .before .before in
-    let asked = chosen .before .kind-of in
+    let asked = chosen .before .before .kind-of in
     let sized = chosen .before .before .before .before in
     let entry = sized .before .before .before .before .before .before in
     let last = called .policy .last .1 in
@@ -144,7 +144,7 @@ returns-5 : tie.Need-returns-5
 returns-5 c =
     let sized = c .before .before .before .before .before .before in
     let entry = sized .before .before .before .before .before .before in
-    let asked = c .before .before .before .kind-of in
+    let asked = c .before .before .before .before .kind-of in
     step-unknown (entry .args .g) (entry .args .domain) (entry .args .kind) (entry .args .argument) (lent entry) (entry .args .t6)
     (asked .result) (asked .ensures) (sized .before .sizes .ensures) (sized .if1 .left) (c .before .before .before .before .before .if2 .left)
     (c .before .before .match .keys3) (c .refused3 .ensures)
@@ -158,9 +158,9 @@ step-spec =
     returns
     refused-requires-2
     returns-2
+    kind-of-requires
     mul-own
     element-copy-out-own
-    kind-of-requires
     enum-known-asked
     line-requires
     put-back-requires
