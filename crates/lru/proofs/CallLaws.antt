@@ -1,0 +1,199 @@
+-- What the calls write: the words that the loops make are the words of the rule's orders.
+use mathlib.Core.Path.{_≡_, refl, sym, ap, ap₂, _∙_}
+use mathlib.Core.Bool.{Bool, true, false, cond, not, true≢false}
+use mathlib.Core.List.{[], _∷_, _++_, append-nil}
+use Prim.Native.Nat.{ℕ, zero, suc, _+_, _-_, _*_, _%_, _^_, _≤_, _<_}
+use native.Mathlib.Omega.{arith}
+use lib.Dec.{eqb, ltb}
+use lib.Bits.{bitXor, xor-lt}
+use lib.ListN.{length, length-append}
+use borrow.Author.Tests.{eqb-true, eq-eqb, ltb-true, ltb-false, lt-ltb}
+use Rattle.waymap.specs.Bits.{Bits, bit, digit, word}
+use Rattle.waymap.specs.Ways.{takes}
+use Rattle.waymap.proofs.Booleans.{cases}
+use Rattle.waymap.proofs.BitLaws.{bit-xor, bit-not}
+use Rattle.waymap.proofs.WordLaws.{from-bits}
+use Rattle.waymap.proofs.WordLaws as WordLaws
+use Rattle.waymap.proofs.NumberLaws as NumberLaws
+use Rattle.lru.specs.Lru.{Order, places, wordOf, times, fresh, order, written, kept, others, joined, touched, touch, changes, aged, reset, last, victim, own}
+use Rattle.lru.specs.Inside.{ahead}
+use Rattle.lru.specs.Calls.{victimOf, touchOf, changeOf, resetOf, ownOf}
+use Rattle.lru.proofs.OrderLaws.{eqb-sym, times-append, Below, below-head, below-tail, below-kept, Each, each-below, each-long, fresh-each, joined-each}
+use Rattle.lru.proofs.BeforeLaws.{not-first}
+use Rattle.lru.proofs.LruLaws.{aged-each}
+use Rattle.lru.proofs.PlaceLaws.{places-below, places-word, word-lt, order-each, each-sixteen}
+
+-- ---- parts of orders
+
+-- tests that agree below n keep the same ways
+kept-ext : (n : ℕ) {p q : Bits} (o : Order) → Below n o → ((w : ℕ) → w < n → p w ≡ q w) → kept p o ≡ kept q o
+unfolding kept
+kept-ext n [] b e = refl
+kept-ext n (v ∷ o) b e = rw (e v (below-head n v o b), kept-ext n o (below-tail n v o b) e)
+
+-- of a way that stands once, that way alone is kept
+kept-none : (w : ℕ) (o : Order) → times w o ≡ 0 → kept (eqb w) o ≡ []
+unfolding kept times
+kept-none w [] e = refl
+kept-none w (v ∷ o) e = let other = not-first v w o e in rw (eqb-sym w v, other .0, kept-none w o (other .1))
+
+kept-one : (w : ℕ) (o : Order) → times w o ≡ 1 → kept (eqb w) o ≡ w ∷ []
+unfolding kept times
+kept-one w [] e = absurd (omega arith)
+kept-one w (v ∷ o) e =
+    let once : digit (eqb v w) + times w o ≡ 1 = e in
+    cases (eqb v w)
+    (λ t. let rest : digit true + times w o ≡ 1 = rw t at once in
+    rw (eqb-sym w v, t, kept-none w o (omega arith)) (ap (λ (i : ℕ). i ∷ []) (eqb-true v w t)))
+    (λ t. let rest : digit false + times w o ≡ 1 = rw t at once in
+    rw (eqb-sym w v, t, kept-one w o (omega arith)))
+
+-- ---- an order put before another is the word of both
+
+ahead-word : (o q : Order) → Below 16 o → Below 16 q → length (o ++ q) ≤ 16 → ahead o (wordOf q) ≡ wordOf (o ++ q)
+unfolding ahead wordOf
+ahead-word [] q b c h = refl
+ahead-word (v ∷ o) q b c h =
+    rw (ahead-word o q (below-tail 16 v o b) c (omega arith)) (omega (arith, word-lt 15 (o ++ q) both (omega arith)))
+  where
+    both : Below 16 (o ++ q)
+    both w k = times-append w o q ∙ rw (below-tail 16 v o b w k, c w k)
+
+alone-word : (o : Order) → Below 16 o → length o ≤ 16 → ahead o 0 ≡ wordOf o
+unfolding wordOf times
+alone-word o b h = ahead-word o [] b (λ w k. refl) (rw (append-nil o) h) ∙ ap wordOf (append-nil o)
+
+kept-short : (p : Bits) (o : Order) → length (kept p o) ≤ length o
+unfolding kept
+kept-short p [] = omega arith
+kept-short p (v ∷ o) = cases (p v) (λ t. rw t (omega (arith, kept-short p o))) (λ t. rw t (omega (arith, kept-short p o)))
+
+-- ---- the words of the rule's orders
+
+module _ (W x : ℕ) (small : W ≤ 16) where
+  read : places W (wordOf (order W x)) ≡ order W x
+  read = places-word W (order W x) (each-sixteen W small (order W x) (order-each W x)) (each-long W (order W x) (order-each W x))
+
+  low : (p : Bits) → Below 16 (kept p (order W x))
+  low p = below-kept 16 p (order W x) (each-sixteen W small (order W x) (order-each W x))
+
+  -- of a test that a loop goes by
+  loop-kept : {p q : Bits} → ((w : ℕ) → w < 16 → p w ≡ q w) → kept p (places W (wordOf (order W x))) ≡ kept q (order W x)
+  loop-kept {p} {q} e =
+      ap (λ (o : Order). kept p o) read ∙ kept-ext 16 (order W x) (each-sixteen W small (order W x) (order-each W x)) e
+
+  pub victim-word : (m : Bits) → last 0 (kept m (places W (wordOf (order W x)))) ≡ victim W m x
+  unfolding victim
+  victim-word m = ap (λ (o : Order). last 0 (kept m o)) read
+
+  pub own-word : (m : Bits) → ahead (kept m (places W (wordOf (order W x)))) 0 ≡ own W m x
+  unfolding own
+  own-word m =
+      ap (λ (o : Order). ahead (kept m o) 0) read
+      ∙ alone-word (kept m (order W x)) (low m) (omega (arith, kept-short m (order W x), each-long W (order W x) (order-each W x)))
+
+  pub touched-word : (m : Bits) (w : ℕ) → m w ≡ true → w < W
+      → ahead (w ∷ kept (others (eqb w)) (places W (wordOf (order W x)))) 0 ≡ wordOf (touched m w (order W x))
+  unfolding touched joined
+  touched-word m w t h =
+      ap (λ (o : Order). ahead (w ∷ kept (others (eqb w)) o) 0) read
+      ∙ ap (λ (o : Order). ahead (o ++ kept (others (eqb w)) (order W x)) 0) (sym first)
+      ∙ alone-word (joined (eqb w) (order W x) (order W x)) (each-sixteen W small _ each) (omega (arith, each-long W _ each))
+      ∙ rw t
+    where
+      first : kept (eqb w) (order W x) ≡ w ∷ []
+      first = kept-one w (order W x) (order-each W x w ∙ rw (lt-ltb w W h))
+
+      each : Each W (joined (eqb w) (order W x) (order W x))
+      each = joined-each W (eqb w) (order W x) (order W x) (order-each W x) (order-each W x)
+
+  pub aged-word : (moves : Bits)
+      → ahead (kept (others moves) (places W (wordOf (order W x)))) (ahead (kept moves (places W (wordOf (fresh W)))) 0)
+      ≡ wordOf (aged W moves (order W x))
+  unfolding aged joined
+  aged-word moves =
+      ap₂ (λ (o q : Order). ahead (kept (others moves) o) (ahead (kept moves q) 0)) read fresh-read
+      ∙ ap (λ (n : ℕ). ahead (kept (others moves) (order W x)) n)
+      (ap (λ (o : Order). ahead o 0) again ∙ alone-word (kept (others (others moves)) (fresh W)) back (omega (arith, short, each-long W (fresh W) (fresh-each W))))
+      ∙ ahead-word (kept (others moves) (order W x)) (kept (others (others moves)) (fresh W)) (low (others moves)) back
+      (omega (arith, each-long W (joined (others moves) (order W x) (fresh W)) (aged-each W moves x)))
+    where
+      sixteen : Below 16 (fresh W)
+      sixteen = each-sixteen W small (fresh W) (fresh-each W)
+
+      fresh-read : places W (wordOf (fresh W)) ≡ fresh W
+      fresh-read = places-word W (fresh W) sixteen (each-long W (fresh W) (fresh-each W))
+
+      again : kept moves (fresh W) ≡ kept (others (others moves)) (fresh W)
+      again = kept-ext 16 (fresh W) sixteen (λ w h. cases (moves w) (λ t. rw t) (λ t. rw t))
+
+      back : Below 16 (kept (others (others moves)) (fresh W))
+      back = below-kept 16 (others (others moves)) (fresh W) sixteen
+
+      short : length (kept (others (others moves)) (fresh W)) ≤ length (fresh W)
+      short = kept-short (others (others moves)) (fresh W)
+
+-- ---- maps
+
+-- the ways of a word that are not in a map
+pub other-ways : (W x map : ℕ) → map < 2 ^ 16 → kept (bit (2 ^ 16 - 1 - map)) (places W x) ≡ kept (others (bit map)) (places W x)
+other-ways W x map h = kept-ext 16 (places W x) (places-below W x) (λ w k. bit-not 16 map w h ∙ rw (lt-ltb w 16 k))
+
+-- all but one
+pub other-way : (W x way : ℕ) {one : ℕ} → one ≡ word 16 (λ (w : ℕ). eqb way w)
+    → kept (bit (2 ^ 16 - 1 - one)) (places W x) ≡ kept (others (eqb way)) (places W x)
+other-way W x way {one} e =
+    other-ways W x one (rw e (WordLaws.word-lt 16 (λ (w : ℕ). eqb way w)))
+    ∙ kept-ext 16 (places W x) (places-below W x) (λ w k. rw (e, WordLaws.bit-word-in 16 (λ (v : ℕ). eqb way v) w k))
+
+-- the ways in exactly one of two maps
+pub change-word : (old new : ℕ) → old < 2 ^ 16 → new < 2 ^ 16 → bitXor old new ≡ changeOf old new
+unfolding changeOf changes
+change-word old new h k = from-bits 16 (xor-lt 16 old new h k) (λ i l. bit-xor old new i)
+
+-- ---- a call within the limits gives what the rule gives
+
+-- a way of the map is a way of the cache
+pub way-lt : (W map w : ℕ) → takes W map ≡ true → map < 2 ^ 16 → bit map w ≡ true → w < W
+way-lt W map w t h e =
+    cases (ltb w W)
+    (λ k. ltb-true w W k)
+    (λ k. absurd (true≢false (sym e ∙ WordLaws.bit-high W map w (NumberLaws.takes-below W map t h) (ltb-false w W k))))
+
+module _ (W x map : ℕ) (t : takes W map ≡ true) where
+  abbrev small : W ≤ 16
+  small = NumberLaws.takes-sized W map t .most
+
+  pub victim-given : {r way : ℕ} → r ≡ wordOf (order W x) → way ≡ last 0 (kept (bit map) (places W r)) → way ≡ victimOf W x map
+  unfolding victimOf
+  victim-given e f = rw t (f ∙ ap (λ (n : ℕ). last 0 (kept (bit map) (places W n))) e ∙ victim-word W x small (bit map))
+
+  pub own-given : {r y : ℕ} → r ≡ wordOf (order W x) → y ≡ ahead (kept (bit map) (places W r)) 0 → y ≡ ownOf W x map
+  unfolding ownOf
+  own-given e f = rw t (f ∙ ap (λ (n : ℕ). ahead (kept (bit map) (places W n)) 0) e ∙ own-word W x small (bit map))
+
+  -- a touch outside the map, and inside
+  pub untouched : (w : ℕ) → bit map w ≡ false → x ≡ touchOf W x map w
+  unfolding touchOf touch touched written
+  untouched w e = rw (t, e, eq-eqb (wordOf (order W x)) (wordOf (order W x)) refl)
+
+  pub touch-given : (w : ℕ) {r n y : ℕ} → map < 2 ^ 16 → bit map w ≡ true → r ≡ wordOf (order W x)
+      → n ≡ ahead (w ∷ kept (others (eqb w)) (places W r)) 0 → y ≡ cond (eqb n r) x n → y ≡ touchOf W x map w
+  unfolding touchOf touch written
+  touch-given w {r} {n} h e is f g =
+      rw t (g ∙ ap₂ (λ (a b : ℕ). cond (eqb a b) x a) next is)
+    where
+      next : n ≡ wordOf (touched (bit map) w (order W x))
+      next = f ∙ ap (λ (k : ℕ). ahead (w ∷ kept (others (eqb w)) (places W k)) 0) is ∙ touched-word W x small (bit map) w e (way-lt W map w t h e)
+
+  pub reset-given : {r n y : ℕ} → r ≡ wordOf (order W x)
+      → n ≡ ahead (kept (others (bit map)) (places W r)) (ahead (kept (bit map) (places W (wordOf (fresh W)))) 0)
+      → y ≡ cond (eqb n r) x n → y ≡ resetOf W x map
+  unfolding resetOf written
+  reset-given {r} {n} is f g =
+      rw t (g ∙ ap₂ (λ (a b : ℕ). cond (eqb a b) x a) next is)
+    where
+      next : n ≡ wordOf (aged W (bit map) (order W x))
+      next =
+          f ∙ ap (λ (k : ℕ). ahead (kept (others (bit map)) (places W k)) (ahead (kept (bit map) (places W (wordOf (fresh W)))) 0)) is
+          ∙ aged-word W x small (bit map)

@@ -1,0 +1,8 @@
+-- The laws that the crates above cite.
+pub mod OrderLaws
+pub mod PlaceLaws
+pub mod BeforeLaws
+pub mod LruLaws
+pub mod LoopLaws
+pub mod CallLaws
+pub mod WorkedCases

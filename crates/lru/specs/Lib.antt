@@ -1,0 +1,4 @@
+-- True LRU: document 02, job 1.
+pub mod Lru
+pub mod Calls
+pub mod Inside

@@ -1,0 +1,117 @@
+// Words that hold orders, of up to sixteen ways.
+ghost use mathlib.Core.Path.{_≡_};
+ghost use mathlib.Core.Bool.{not, cond};
+ghost use mathlib.Core.List.{_∷_};
+ghost use Prim.Native.Nat.{ℕ, _/_, _%_, _^_, _≤_, _<_};
+ghost use lib.Dec.{eqb};
+ghost use Rattle.waymap.specs.Bits.{bit};
+ghost use Rattle.waymap.specs.Ways.{Sized};
+ghost use Rattle.lru.specs.Lru.{places, wordOf, malformed, order, kept, others, last, fresh as freshOrder};
+ghost use Rattle.lru.specs.Inside.{ahead};
+
+// The way at place k.
+fn at(word: u64, k: usize) -> usize
+    requires { ⌜ k < 16 ⌝ }
+    ensures { λ r. ⌜ r ≡ word / 16 ^ k % 16 ⌝ }
+{
+    ((word >> (4 * k)) % 16) as usize
+}
+
+// Whether a word holds each way exactly once and nothing above: as there are as many places as ways, no way may be missing.
+fn holds_each(ways: usize, word: u64) -> bool
+    requires { ⌜ Sized ways ⌝ }
+    ensures { λ r. ⌜ r ≡ not (malformed ways word) ⌝ }
+{
+    let mut seen: u16 = 0;
+    let mut rest = word;
+    let mut k = 0;
+    while k < ways {
+        seen = seen | waymap::only((rest % 16) as usize);
+        rest = rest / 16;
+        k += 1;
+    }
+    if rest == 0 {
+        return seen == waymap::all(ways);
+    }
+    false
+}
+
+// The fresh order.
+pub fn fresh(ways: usize) -> u64
+    requires { ⌜ Sized ways ⌝ }
+    ensures { λ r. ⌜ r ≡ wordOf (freshOrder ways) ⌝ }
+{
+    0x0123456789abcdef >> (64 - 4 * ways)
+}
+
+// The order that a word is read as.
+pub fn read(ways: usize, word: u64) -> u64
+    requires { ⌜ Sized ways ⌝ }
+    ensures { λ r. ⌜ r ≡ wordOf (order ways word) ⌝ }
+{
+    if holds_each(ways, word) {
+        return word;
+    }
+    fresh(ways)
+}
+
+// The last way of an order that is in the map, 0 without one.
+pub fn oldest(ways: usize, order: u64, map: u16) -> usize
+    requires { ⌜ Sized ways ⌝ }
+    ensures { λ r. ⌜ r ≡ last 0 (kept (bit map) (places ways order)) ⌝ }
+{
+    let mut k = ways;
+    while 0 < k {
+        k -= 1;
+        let way = at(order, k);
+        if waymap::has(map, way) {
+            return way;
+        }
+    }
+    0
+}
+
+// The ways of an order that are in the map, put before the places of a word.
+pub fn put_ahead(ways: usize, map: u16, order: u64, word: u64) -> u64
+    requires { ⌜ Sized ways ⌝ }
+    ensures { λ r. ⌜ r ≡ ahead (kept (bit map) (places ways order)) word ⌝ }
+{
+    let mut out = word;
+    let mut k = ways;
+    while 0 < k {
+        k -= 1;
+        let way = at(order, k);
+        if waymap::has(map, way) {
+            out = (out << 4) + (way as u64);
+        }
+    }
+    out
+}
+
+// The order with the way brought to place 0.
+pub fn touched(ways: usize, order: u64, way: usize) -> u64
+    requires { ⌜ Sized ways ⌝ }
+    requires { ⌜ way < 16 ⌝ }
+    ensures { λ r. ⌜ r ≡ ahead (way ∷ kept (others (eqb way)) (places ways order)) 0 ⌝ }
+{
+    (put_ahead(ways, !waymap::only(way), order, 0) << 4) + (way as u64)
+}
+
+// The order with the ways of the map moved to the old end.
+pub fn aged(ways: usize, order: u64, moves: u16) -> u64
+    requires { ⌜ Sized ways ⌝ }
+    ensures { λ r.
+        ⌜ r ≡ ahead (kept (others (bit moves)) (places ways order)) (ahead (kept (bit moves) (places ways (wordOf (freshOrder ways)))) 0) ⌝ }
+{
+    put_ahead(ways, !moves, order, put_ahead(ways, moves, fresh(ways), 0))
+}
+
+// The word with an order written over it: where that is the order it is read as, the word stays.
+pub fn written(word: u64, order: u64, next: u64) -> u64
+    ensures { λ r. ⌜ r ≡ cond (eqb next order) word next ⌝ }
+{
+    if next == order {
+        return word;
+    }
+    next
+}
