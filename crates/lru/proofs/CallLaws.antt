@@ -8,9 +8,10 @@ use lib.Dec.{eqb, ltb}
 use lib.Bits.{bitXor, xor-lt}
 use lib.ListN.{length, length-append}
 use borrow.Author.Tests.{eqb-true, eq-eqb, ltb-true, ltb-false, lt-ltb}
-use Rattle.waymap.specs.Bits.{Bits, bit, digit, word}
-use Rattle.waymap.specs.Ways.{takes}
-use Rattle.waymap.proofs.Booleans.{cases}
+use Rattle.waymap.specs.Bits.{Bits, bit, digit, word, reaches}
+use Rattle.waymap.specs.Ways.{isWays, takes}
+use Rattle.waymap.proofs.Booleans.{cases, and-left}
+use Rattle.waymap.proofs.MapLaws.{reach-below}
 use Rattle.waymap.proofs.BitLaws.{bit-xor, bit-not}
 use Rattle.waymap.proofs.WordLaws.{from-bits}
 use Rattle.waymap.proofs.WordLaws as WordLaws
@@ -197,3 +198,29 @@ module _ (W x map : ℕ) (t : takes W map ≡ true) where
       next =
           f ∙ ap (λ (k : ℕ). ahead (kept (others (bit map)) (places W k)) (ahead (kept (bit map) (places W (wordOf (fresh W)))) 0)) is
           ∙ aged-word W x small (bit map)
+
+-- ---- the two calls together are the rule's change of fill map
+
+aged-ext : (W x : ℕ) {p q : Bits} → W ≤ 16 → ((w : ℕ) → w < 16 → p w ≡ q w) → aged W p (order W x) ≡ aged W q (order W x)
+unfolding aged joined
+aged-ext W x small e =
+    ap₂ (λ (o r : Order). o ++ r)
+    (kept-ext 16 (order W x) (each-sixteen W small (order W x) (order-each W x)) (λ w h. ap not (e w h)))
+    (kept-ext 16 (fresh W) (each-sixteen W small (fresh W) (fresh-each W)) (λ w h. ap (λ (b : Bool). not (not b)) (e w h)))
+
+change-takes : (W old new : ℕ) → takes W old ≡ true → takes W new ≡ true → old < 2 ^ 16 → new < 2 ^ 16 → takes W (changeOf old new) ≡ true
+unfolding takes
+change-takes W old new s t h k =
+    let both : bitXor old new < 2 ^ W = xor-lt W old new (NumberLaws.takes-below W old s h) (NumberLaws.takes-below W new t k) in
+    NumberLaws.takes-both W (changeOf old new) (and-left (isWays W) (not (reaches W old)) s) (rw (sym (change-word old new h k)) (reach-below W (bitXor old new) both))
+
+pub change-resets : (W old new x : ℕ) → takes W old ≡ true → takes W new ≡ true → old < 2 ^ 16 → new < 2 ^ 16
+    → resetOf W x (changeOf old new) ≡ reset W (bit old) (bit new) x
+unfolding resetOf changeOf reset
+change-resets W old new x s t h k = rw (change-takes W old new s t h k) (ap (λ (o : Order). written W x o) (aged-ext W x small moved))
+  where
+    small : W ≤ 16
+    small = NumberLaws.takes-sized W old s .most
+
+    moved : (w : ℕ) → w < 16 → bit (changeOf old new) w ≡ changes (bit old) (bit new) w
+    moved w l = WordLaws.bit-word-in 16 (changes (bit old) (bit new)) w l

@@ -116,17 +116,28 @@ aged-each W moves x = joined-each W (others moves) (order W x) (fresh W) (order-
 
 -- so it is what is read afterwards
 module _ (W : ℕ) (small : W ≤ 16) where
-  pub touch-order : (m : Bits) (w x : ℕ) → order W (touch W m w x) ≡ touched m w (order W x)
+  pub touch-order : (m : Bits) (u x : ℕ) → order W (touch W m u x) ≡ touched m u (order W x)
   unfolding touch
-  touch-order m w x = order-written W small x (touched m w (order W x)) (touched-each W m w x)
+  touch-order m u x = order-written W small x (touched m u (order W x)) (touched-each W m u x)
 
   pub reset-order : (old new : Bits) (x : ℕ) → order W (reset W old new x) ≡ aged W (changes old new) (order W x)
   unfolding reset
   reset-order old new x = order-written W small x (aged W (changes old new) (order W x)) (aged-each W (changes old new) x)
 
+-- ways outside the map stay as they are to each other
+touched-stays : (m : Bits) (u : ℕ) (o : Order) (v w : ℕ) → m v ≡ false → m w ≡ false → before (touched m u o) v w ≡ before o v w
+unfolding touched
+touched-stays m u o v w a b =
+    cases (m u)
+    (λ t. rw t (joined-second (eqb u) o o v w (other v a t) (other w b t)))
+    (λ t. rw t)
+  where
+    other : (i : ℕ) → m i ≡ false → m u ≡ true → eqb u i ≡ false
+    other i k t = ne-eqb u i (λ e. true≢false (sym t ∙ ap m e ∙ k))
+
 -- two ways on which two words agree are ways on which they agree afterwards
-module _ (W : ℕ) (x y v w : ℕ) where
-  pub touched-agrees : (m : Bits) (u : ℕ) → before (order W x) v w ≡ before (order W y) v w
+module _ (W x y v w : ℕ) where
+  touched-agrees : (m : Bits) (u : ℕ) → before (order W x) v w ≡ before (order W y) v w
       → before (touched m u (order W x)) v w ≡ before (touched m u (order W y)) v w
   unfolding touched
   touched-agrees m u e =
@@ -136,20 +147,41 @@ module _ (W : ℕ) (x y v w : ℕ) where
       (λ t. rw t e)
 
   -- and where one of them moves, they agree whatever they were
-  pub aged-agrees : (moves : Bits) → (moves v ≡ false → moves w ≡ false → before (order W x) v w ≡ before (order W y) v w)
+  aged-agrees : (moves : Bits) → (moves v ≡ false → moves w ≡ false → before (order W x) v w ≡ before (order W y) v w)
       → before (aged W moves (order W x)) v w ≡ before (aged W moves (order W y)) v w
   unfolding aged
   aged-agrees moves e =
       joined-agrees W (others moves) (order W x) (fresh W) (order W y) (fresh W) v w (order-each W x) (fresh-each W) (order-each W y) (fresh-each W)
       (λ r s. e (not-true (moves v) r) (not-true (moves w) s)) (λ r s. refl)
 
--- ways outside the map stay as they are to each other
-pub touched-stays : (m : Bits) (u : ℕ) (o : Order) (v w : ℕ) → m v ≡ false → m w ≡ false → before (touched m u o) v w ≡ before o v w
-unfolding touched
-touched-stays m u o v w a b =
-    cases (m u)
-    (λ t. rw t (joined-second (eqb u) o o v w (other v a t) (other w b t)))
-    (λ t. rw t)
-  where
-    other : (i : ℕ) → m i ≡ false → m u ≡ true → eqb u i ≡ false
-    other i k t = ne-eqb u i (λ e. true≢false (sym t ∙ ap m e ∙ k))
+-- the same of the words
+module _ (W : ℕ) (small : W ≤ 16) (x v w : ℕ) where
+  touch-view : (m : Bits) (u : ℕ) → before (order W (touch W m u x)) v w ≡ before (touched m u (order W x)) v w
+  touch-view m u = ap (λ (o : Order). before o v w) (touch-order W small m u x)
+
+  reset-view : (old new : Bits) → before (order W (reset W old new x)) v w ≡ before (aged W (changes old new) (order W x)) v w
+  reset-view old new = ap (λ (o : Order). before o v w) (reset-order W small old new x)
+
+  pub touch-stays : (m : Bits) (u : ℕ) → m v ≡ false → m w ≡ false → before (order W (touch W m u x)) v w ≡ before (order W x) v w
+  touch-stays m u a b = touch-view m u ∙ touched-stays m u (order W x) v w a b
+
+module _ (W : ℕ) (small : W ≤ 16) (x y v w : ℕ) where
+  pub touch-agrees : (m : Bits) (u : ℕ) → before (order W x) v w ≡ before (order W y) v w
+      → before (order W (touch W m u x)) v w ≡ before (order W (touch W m u y)) v w
+  touch-agrees m u e = touch-view W small x v w m u ∙ touched-agrees W x y v w m u e ∙ sym (touch-view W small y v w m u)
+
+  pub reset-agrees : (old new : Bits) → (changes old new v ≡ false → changes old new w ≡ false → before (order W x) v w ≡ before (order W y) v w)
+      → before (order W (reset W old new x)) v w ≡ before (order W (reset W old new y)) v w
+  reset-agrees old new e =
+      reset-view W small x v w old new ∙ aged-agrees W x y v w (changes old new) e ∙ sym (reset-view W small y v w old new)
+
+  -- a pair of which the old map has a way and the new one has none
+  pub reset-clears : (old new : Bits) → (old v || old w) ≡ true → (new v || new w) ≡ false
+      → before (order W (reset W old new x)) v w ≡ before (order W (reset W old new y)) v w
+  unfolding changes xor
+  reset-clears old new some none =
+      reset-agrees old new
+      (λ r s. absurd (true≢false (sym some ∙ rw (kept-out v (or-none (new v) (new w) none .0) r, kept-out w (or-none (new v) (new w) none .1) s))))
+    where
+      kept-out : (i : ℕ) → new i ≡ false → xor (old i) (new i) ≡ false → old i ≡ false
+      kept-out i n e = cases (old i) (λ t. absurd (true≢false (rw (t, n) at e))) (λ t. t)

@@ -19,7 +19,9 @@ use Rattle.tree.proofs.TreeWordLaws as TreeLaws
 use Rattle.nru.specs.Calls as Nru
 use Rattle.nru.specs.declared.Choice.{Choice}
 use Rattle.nru.proofs.NruWordLaws as NruLaws
-use Rattle.replacement.specs.Rule.{Rule, tree, nru, ruleOf}
+use Rattle.lru.specs.Calls as Lru
+use Rattle.lru.proofs.CallLaws as LruLaws
+use Rattle.replacement.specs.Rule.{Rule, tree, nru, lru, ruleOf}
 use Rattle.replacement.specs.Calls.{inLimits, victimOf, touchOf, freshOf, ownOf, sharesOf}
 use Rattle.replacement.specs.Change.{changeOf, changeUnder, changeBy}
 
@@ -28,21 +30,24 @@ use Rattle.replacement.specs.Change.{changeOf, changeUnder, changeBy}
 module _ (W rule : ℕ) (limits : inLimits W rule ≡ true) where
   pub ways : isWays W ≡ true
   unfolding inLimits
-  ways = and-left (isWays W) (ltb rule 2) limits
+  ways = and-left (isWays W) (ltb rule 3) limits
 
   pub sized : Sized W
   sized = NumberLaws.sized W ways
 
-  -- a rule within the limits that is not 0 is 1
-  pub one : (rule ≡ 0 → ⊥) → rule ≡ 1
+  -- a rule within the limits that is neither 0 nor 1 is 2
+  pub two : (rule ≡ 0 → ⊥) → (rule ≡ 1 → ⊥) → rule ≡ 2
   unfolding inLimits
-  one n = omega (arith, ltb-true rule 2 (and-right (isWays W) (ltb rule 2) limits), n)
+  two n m = omega (arith, ltb-true rule 3 (and-right (isWays W) (ltb rule 3) limits), n, m)
 
-  pub is-tree : rule ≡ 0 → tree W ≡ ruleOf rule W
-  is-tree z = ap (λ (r : ℕ). ruleOf r W) (sym z)
+  pub is-lru : (rule ≡ 0 → ⊥) → (rule ≡ 1 → ⊥) → lru W ≡ ruleOf rule W
+  is-lru n m = ap (λ (r : ℕ). ruleOf r W) (sym (two n m))
 
-  pub is-nru : (rule ≡ 0 → ⊥) → nru W ≡ ruleOf rule W
-  is-nru n = ap (λ (r : ℕ). ruleOf r W) (sym (one n))
+pub is-tree : (W rule : ℕ) → rule ≡ 0 → tree W ≡ ruleOf rule W
+is-tree W rule z = ap (λ (r : ℕ). ruleOf r W) (sym z)
+
+pub is-nru : (W rule : ℕ) → rule ≡ 1 → nru W ≡ ruleOf rule W
+is-nru W rule z = ap (λ (r : ℕ). ruleOf r W) (sym z)
 
 -- ---- maps
 
@@ -62,23 +67,25 @@ neither W a b e = or-none (reaches W a) (reaches W b) (sym (reach-or W a b) ∙ 
 
 -- ---- a call that is not refused gives what the rule gives
 
-module _ (W rule x map : ℕ) (limits : inLimits W rule ≡ true) (reach : reaches W map ≡ false) where
-  pub victim-given : {way y : ℕ} → any 16 (bit map) ≡ true → way ≡ ruleOf rule W .victim map x → y ≡ ruleOf rule W .before map x
+module _ (W rule : ℕ) {R : Rule} (limits : inLimits W rule ≡ true) (under : R ≡ ruleOf rule W) where
+  pub victim-given : (x map : ℕ) {way y : ℕ} → reaches W map ≡ false → any 16 (bit map) ≡ true → way ≡ R .victim map x → y ≡ R .before map x
       → record { answer = 0 ∷ way ∷ []; word = y } ≡ victimOf W rule x map
   unfolding victimOf
-  victim-given some e f = rw (limits, reach, some, e, f)
+  victim-given x map reach some e f =
+      rw (limits, reach, some, e ∙ ap (λ (r : Rule). r .victim map x) under, f ∙ ap (λ (r : Rule). r .before map x) under)
 
-  pub touch-given : (way : ℕ) {y : ℕ} → way < W → y ≡ ruleOf rule W .touch map way x → record { answer = 0 ∷ []; word = y } ≡ touchOf W rule x map way
+  pub touch-given : (x map way : ℕ) {y : ℕ} → reaches W map ≡ false → way < W → y ≡ R .touch map way x
+      → record { answer = 0 ∷ []; word = y } ≡ touchOf W rule x map way
   unfolding touchOf
-  touch-given way h e = rw (limits, reach, lt-ltb way W h, e)
+  touch-given x map way reach h e = rw (limits, reach, lt-ltb way W h, e ∙ ap (λ (r : Rule). r .touch map way x) under)
 
-  pub own-given : {y : ℕ} → y ≡ ruleOf rule W .part map x → record { answer = 0 ∷ []; word = y } ≡ ownOf W rule x map
+  pub own-given : (x map : ℕ) {y : ℕ} → reaches W map ≡ false → y ≡ R .part map x → record { answer = 0 ∷ []; word = y } ≡ ownOf W rule x map
   unfolding ownOf
-  own-given e = rw (limits, reach, e)
+  own-given x map reach e = rw (limits, reach, e ∙ ap (λ (r : Rule). r .part map x) under)
 
-pub fresh-given : (W rule : ℕ) {y : ℕ} → inLimits W rule ≡ true → y ≡ ruleOf rule W .fresh → record { answer = 0 ∷ []; word = y } ≡ freshOf W rule
-unfolding freshOf
-fresh-given W rule limits e = rw (limits, e)
+  pub fresh-given : {y : ℕ} → y ≡ R .fresh → record { answer = 0 ∷ []; word = y } ≡ freshOf W rule
+  unfolding freshOf
+  fresh-given e = rw (limits, e ∙ ap (λ (r : Rule). r .fresh) under)
 
 module _ (W rule a b : ℕ) (limits : inLimits W rule ≡ true) (reach : reaches W (bitOr a b) ≡ false) where
   pub shares-given : {s : Bool} → s ≡ ruleOf rule W .shares a b → cond s 9 0 ∷ [] ≡ sharesOf W rule a b
@@ -123,30 +130,59 @@ module _ (W : ℕ) (w : isWays W ≡ true) where
   pub nru-fresh : Nru.freshOf W ≡ nru W .fresh
   nru-fresh = NruLaws.fresh-word W (NumberLaws.sized W w .most)
 
+-- ---- true LRU
+
+module _ (W : ℕ) (w : isWays W ≡ true) where
+  lru-takes : (map : ℕ) → reaches W map ≡ false → takes W map ≡ true
+  lru-takes map r = NumberLaws.takes-both W map w r
+
+  pub lru-victim : (x map : ℕ) → reaches W map ≡ false → Lru.victimOf W x map ≡ lru W .victim map x
+  unfolding Lru.victimOf
+  lru-victim x map r = rw (lru-takes map r)
+
+  pub lru-touch : (x map way : ℕ) → reaches W map ≡ false → Lru.touchOf W x map way ≡ lru W .touch map way x
+  unfolding Lru.touchOf
+  lru-touch x map way r = rw (lru-takes map r)
+
+  pub lru-own : (x map : ℕ) → reaches W map ≡ false → Lru.ownOf W x map ≡ lru W .part map x
+  unfolding Lru.ownOf
+  lru-own x map r = rw (lru-takes map r)
+
+  pub lru-fresh : Lru.freshOf W ≡ lru W .fresh
+  unfolding Lru.freshOf
+  lru-fresh = rw w
+
 -- ---- a call that is not refused, by what the rule's crate gave
 
 -- the victim
 module _ (W rule x map : ℕ) (limits : inLimits W rule ≡ true) (reach : reaches W map ≡ false) (some : any 16 (bit map) ≡ true) where
   pub victim-by-tree : {way : ℕ} → rule ≡ 0 → way ≡ Tree.victimOf W x map → record { answer = 0 ∷ way ∷ []; word = x } ≡ victimOf W rule x map
   victim-by-tree z e =
-      let under : tree W ≡ ruleOf rule W = is-tree W rule limits z in
-      victim-given W rule x map limits reach some (e ∙ tree-victim W (ways W rule limits) x map reach ∙ ap (λ (R : Rule). R .victim map x) under)
-      (ap (λ (R : Rule). R .before map x) under)
+      victim-given W rule limits (is-tree W rule z) x map reach some (e ∙ tree-victim W (ways W rule limits) x map reach) refl
 
-  pub victim-by-nru : {r : Choice} → map < 2 ^ 16 → (rule ≡ 0 → ⊥) → r ≡ Nru.victimOf x map
+  pub victim-by-nru : {r : Choice} → map < 2 ^ 16 → rule ≡ 1 → r ≡ Nru.victimOf x map
       → record { answer = 0 ∷ r .way ∷ []; word = r .word } ≡ victimOf W rule x map
-  victim-by-nru h n e =
-      let under : nru W ≡ ruleOf rule W = is-nru W rule limits n in
+  victim-by-nru h o e =
       let choice = e ∙ nru-victim W (ways W rule limits) x map h reach some in
-      victim-given W rule x map limits reach some (ap (λ (r : Choice). r .way) choice ∙ ap (λ (R : Rule). R .victim map x) under)
-      (ap (λ (r : Choice). r .word) choice ∙ ap (λ (R : Rule). R .before map x) under)
+      victim-given W rule limits (is-nru W rule o) x map reach some (ap (λ (r : Choice). r .way) choice) (ap (λ (r : Choice). r .word) choice)
+
+  pub victim-by-lru : {way : ℕ} → (rule ≡ 0 → ⊥) → (rule ≡ 1 → ⊥) → way ≡ Lru.victimOf W x map
+      → record { answer = 0 ∷ way ∷ []; word = x } ≡ victimOf W rule x map
+  victim-by-lru n o e =
+      victim-given W rule limits (is-lru W rule limits n o) x map reach some (e ∙ lru-victim W (ways W rule limits) x map reach) refl
+
+-- only trees have nodes to share
+pub no-nodes : (rule W a b : ℕ) → (rule ≡ 0 → ⊥) → false ≡ ruleOf rule W .shares a b
+no-nodes zero W a b n = absurd (n refl)
+no-nodes (suc zero) W a b n = refl
+no-nodes (suc (suc r)) W a b n = refl
 
 -- whether a node is shared, where the test of it found `b`
 pub shares-by-tree : (W rule m n : ℕ) {s b : Bool} → inLimits W rule ≡ true → reaches W (bitOr m n) ≡ false → rule ≡ 0 → s ≡ Tree.sharesOf W m n → s ≡ b
     → cond b 9 0 ∷ [] ≡ sharesOf W rule m n
 shares-by-tree W rule m n limits reach z e k =
     shares-given W rule m n limits reach
-    (sym k ∙ e ∙ tree-shares W (ways W rule limits) m n reach ∙ ap (λ (R : Rule). R .shares m n) (is-tree W rule limits z))
+    (sym k ∙ e ∙ tree-shares W (ways W rule limits) m n reach ∙ ap (λ (R : Rule). R .shares m n) (is-tree W rule z))
 
 -- ---- a change of fill map, worked out first and then done, is the rule's
 
@@ -157,4 +193,5 @@ change-resets W rule x old new h k limits first second = rw (limits, first, seco
   where
     under : (r : ℕ) → isWays W ≡ true → changeBy (changeUnder r W old new) x ≡ ruleOf r W .reset old new x
     under zero w = tree-reset W w x old new first second
-    under (suc r) w = NruLaws.change-resets old new x h k
+    under (suc zero) w = NruLaws.change-resets old new x h k
+    under (suc (suc r)) w = LruLaws.change-resets W old new x (NumberLaws.takes-both W old w first) (NumberLaws.takes-both W new w second) h k

@@ -1,4 +1,4 @@
--- Tree-PLRU and NRU keep domains apart: `Isolates` of each.
+-- Tree-PLRU, NRU and true LRU keep domains apart: `Isolates` of each.
 use mathlib.Core.Path.{_≡_, refl, sym, ap, _∙_}
 use mathlib.Core.Bool.{Bool, true, false, cond, _&&_, xor, and-comm}
 use Prim.Native.Nat.{ℕ, zero, suc, _-_, _≤_, _<_}
@@ -6,14 +6,16 @@ use native.Mathlib.Omega.{arith}
 use lib.Dec.{eqb, ltb}
 use borrow.Author.Tests.{ltb-true, lt-ltb}
 use Rattle.waymap.specs.Bits.{Bits, bit, word}
-use Rattle.waymap.proofs.Booleans.{cases, not-both}
+use Rattle.waymap.proofs.Booleans.{cases, and-left, and-right, or-none, not-both}
 use Rattle.waymap.proofs.WordLaws.{word-ext, bit-word}
 use Rattle.waymap.proofs.WayLaws.{none-at, any-ext, any-none}
 use Rattle.tree.specs.Tree as Tree
 use Rattle.tree.proofs.TreeLaws as TreeLaws
 use Rattle.nru.specs.Nru as Nru
 use Rattle.nru.proofs.NruLaws as NruLaws
-use Rattle.replacement.specs.Rule.{bit64, tree, nru, ruleOf}
+use Rattle.lru.specs.Lru as Lru
+use Rattle.lru.proofs.LruLaws as LruLaws
+use Rattle.replacement.specs.Rule.{bit64, tree, nru, lru, ruleOf}
 use Rattle.replacement.specs.Isolates.{Isolates, SameOwn}
 
 -- ---- the view of a 64-bit word
@@ -111,8 +113,42 @@ nru-isolates W bound = record {
   same-part = λ map x y e. same-left (bit map) x y e;
 }
 
+-- ---- true LRU
+
+-- words with the same own part agree on every two ways of the map
+own-pairs : (W map x y : ℕ) → SameOwn (lru W) map x y → (v w : ℕ) → bit map v ≡ true → bit map w ≡ true
+    → Lru.before (Lru.order W x) v w ≡ Lru.before (Lru.order W y) v w
+own-pairs W map x y same v w s t = same (v, w) (rw (s, t))
+
+pub lru-isolates : (W : ℕ) → W ≤ 16 → Isolates W (lru W)
+lru-isolates W bound = record {
+  victim-in = λ map x e. LruLaws.victim-in W (bit map) x e;
+  victim-own = λ map x y same. LruLaws.victim-own W (bit map) x y (own-pairs W map x y same);
+  before-stays = λ map x c e. refl;
+  touch-stays = λ map w x c e.
+      let out = or-none (bit map (c .0)) (bit map (c .1)) e in LruLaws.touch-stays W bound x (c .0) (c .1) (bit map) w (out .0) (out .1);
+  before-agrees = λ map x y c same e. e;
+  touch-agrees = λ map w x y c same e. LruLaws.touch-agrees W bound x y (c .0) (c .1) (bit map) w e;
+  reset-agrees = λ old new x y c e. LruLaws.reset-agrees W bound x y (c .0) (c .1) (bit old) (bit new) (λ r s. e);
+  reset-clears = λ old new x y c p q. LruLaws.reset-clears W bound x y (c .0) (c .1) (bit old) (bit new) p q;
+  own-writes = λ map c e. rw (and-left (bit map (c .0)) (bit map (c .1)) e);
+  empty-writes = λ map c none. rw (none (c .0), none (c .1));
+  own-apart = λ map other c apart e own.
+      rw (
+        not-both (bit map (c .0)) (bit other (c .0)) (apart (c .0)) (and-left (bit map (c .0)) (bit map (c .1)) own),
+        not-both (bit map (c .1)) (bit other (c .1)) (apart (c .1)) (and-right (bit map (c .0)) (bit map (c .1)) own),
+      );
+  shares-empty = λ map other none. refl;
+  shares-sym = λ map other. refl;
+  part-same = λ map x y same. LruLaws.part-same W (bit map) x y (own-pairs W map x y same);
+  same-part = λ map x y e c own.
+      LruLaws.same-part W (bit map) x y bound e (c .0) (c .1) (and-left (bit map (c .0)) (bit map (c .1)) own)
+      (and-right (bit map (c .0)) (bit map (c .1)) own);
+}
+
 -- ---- every rule
 
-pub isolates : (rule W : ℕ) → W ≤ 64 → Isolates W (ruleOf rule W)
-isolates zero W bound = tree-isolates W bound
-isolates (suc rule) W bound = nru-isolates W bound
+pub isolates : (rule W : ℕ) → W ≤ 16 → Isolates W (ruleOf rule W)
+isolates zero W bound = tree-isolates W (omega arith)
+isolates (suc zero) W bound = nru-isolates W (omega arith)
+isolates (suc (suc rule)) W bound = lru-isolates W bound

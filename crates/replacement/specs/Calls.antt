@@ -27,9 +27,9 @@ pub record Result : Type 0 where
 abbrev pub result : Outcome → Result
 result r = record { answer = answerOf (r .reply); word = r .word }
 
--- "Rule: 0 Tree-PLRU, 1 NRU."
+-- "Rule: 0 Tree-PLRU, 1 NRU", and "1 now admits rule 2".
 unfoldable pub inLimits : ℕ → ℕ → Bool
-inLimits W rule = isWays W && ltb rule 2
+inLimits W rule = isWays W && ltb rule 3
 
 -- "they answer 1 for a W or rule outside the limits, then 5 for a map or touched way reaching W or higher": what a call gives, by whether
 -- W and rule are within the limits, whether its maps and way are within W, and what a refusal and the call itself give.

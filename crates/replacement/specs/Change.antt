@@ -4,14 +4,16 @@ use Prim.Native.Nat.{ℕ, zero, suc}
 use Rattle.waymap.specs.Bits.{reaches}
 use Rattle.tree.specs.Calls as Tree
 use Rattle.nru.specs.Calls as Nru
+use Rattle.lru.specs.Calls as Lru
 use Rattle.replacement.specs.Calls.{inLimits, checked}
 use Rattle.replacement.specs.declared.Change.{Change}
-use Rattle.replacement.specs.declared.Change.the-variants.{Clear, Raise, Stay}
+use Rattle.replacement.specs.declared.Change.the-variants.{Clear, Raise, Age, Stay}
 
--- By rule: nodes that become zero, or ways whose bits become one.
+-- By rule: nodes that become zero, ways whose bits become one, or ways that move to the old end.
 abbrev pub changeUnder : ℕ → ℕ → ℕ → ℕ → Change
 changeUnder zero W old new = Clear (Tree.changeOf W old new)
-changeUnder (suc r) W old new = Raise (Nru.changeOf old new)
+changeUnder (suc zero) W old new = Raise (Nru.changeOf old new)
+changeUnder (suc (suc r)) W old new = Age W (Lru.changeOf old new)
 
 -- Words stay outside the limits.
 unfoldable pub changeOf : ℕ → ℕ → ℕ → ℕ → Change
@@ -22,4 +24,5 @@ changeOf W rule old new =
 abbrev pub changeBy : Change → ℕ → ℕ
 changeBy (Clear nodes) x = Tree.resetOf x nodes
 changeBy (Raise ways) x = Nru.resetOf x ways
+changeBy (Age W moves) x = Lru.resetOf W x moves
 changeBy Stay x = x

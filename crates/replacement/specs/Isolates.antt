@@ -1,6 +1,5 @@
--- The laws by which a replacement rule keeps domains apart. Whatever rule meets them isolates, whatever its cells are: true LRU's, say,
--- would be the ordered pairs of ways, of which a fill map's choices go by the pairs inside it, while its touches may change every pair
--- with a way in it.
+-- The laws by which a replacement rule keeps domains apart. Whatever rule meets them isolates, whatever its cells are: true LRU's are the
+-- ordered pairs of ways, of which a fill map's choices go by the pairs inside it, while its touches may change every pair with a way in it.
 use mathlib.Core.Path.{_≡_}
 use mathlib.Core.Bool.{true, false, _&&_}
 use Prim.Native.Nat.{ℕ, _<_}

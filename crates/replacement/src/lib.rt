@@ -1,4 +1,4 @@
-// The replacement rules, Tree-PLRU and NRU, without any cache above them: a word and a map give a victim and the word before its touch;
+// The replacement rules, Tree-PLRU, NRU and true LRU, without any cache above them: a word and a map give a victim and the word before its touch;
 // a word, a map and a touched way give a new word.
 ghost use mathlib.Core.Path.{_≡_};
 ghost use Rattle.replacement.specs.Calls.{answerOf, result, inLimits, victimOf, touchOf, freshOf, ownOf, sharesOf};
@@ -28,6 +28,8 @@ pub enum Change {
     Clear(u64),
     // The bits of these ways become one.
     Raise(u64),
+    // Of so many ways, these move to the old end.
+    Age { ways: usize, moves: u16 },
     // The word stays as it is.
     Stay,
 }
@@ -37,7 +39,7 @@ pub fn in_limits(ways: usize, rule: usize) -> bool
     ensures { λ r. ⌜ r ≡ inLimits ways rule ⌝ }
 {
     if waymap::is_ways(ways) {
-        return rule < 2;
+        return rule < 3;
     }
     false
 }
@@ -65,16 +67,21 @@ pub fn victim(ways: usize, rule: usize, word: u64, map: u16) -> Outcome
         };
     }
     if rule == 0 {
-        let way = tree::victim(ways, word, map);
         return Outcome {
-            reply: Reply::Way(way),
+            reply: Reply::Way(tree::victim(ways, word, map)),
             word,
         };
     }
-    let choice = nru::victim(word, map);
+    if rule == 1 {
+        let choice = nru::victim(word, map);
+        return Outcome {
+            reply: Reply::Way(choice.way),
+            word: choice.word,
+        };
+    }
     Outcome {
-        reply: Reply::Way(choice.way),
-        word: choice.word,
+        reply: Reply::Way(lru::victim(ways, word, map)),
+        word,
     }
 }
 
@@ -106,9 +113,15 @@ pub fn touch(ways: usize, rule: usize, word: u64, map: u16, way: usize) -> Outco
             word: tree::touch(ways, word, map, way),
         };
     }
+    if rule == 1 {
+        return Outcome {
+            reply: Reply::Done,
+            word: nru::touch(word, map, way),
+        };
+    }
     Outcome {
         reply: Reply::Done,
-        word: nru::touch(word, map, way),
+        word: lru::touch(ways, word, map, way),
     }
 }
 
@@ -125,7 +138,13 @@ pub fn change_of(ways: usize, rule: usize, old: u16, new: u16) -> Change
     if rule == 0 {
         return Change::Clear(tree::change(ways, old, new));
     }
-    Change::Raise(nru::change(old, new))
+    if rule == 1 {
+        return Change::Raise(nru::change(old, new));
+    }
+    Change::Age {
+        ways,
+        moves: lru::change(old, new),
+    }
 }
 
 // The word after such a change.
@@ -135,6 +154,7 @@ pub fn changed(change: Change, word: u64) -> u64
     match change {
         Change::Clear(nodes) => tree::reset(word, nodes),
         Change::Raise(ways) => nru::reset(word, ways),
+        Change::Age { ways, moves } => lru::reset(ways, word, moves),
         Change::Stay => word,
     }
 }
@@ -155,9 +175,15 @@ pub fn fresh(ways: usize, rule: usize) -> Outcome
             word: 0,
         };
     }
+    if rule == 1 {
+        return Outcome {
+            reply: Reply::Done,
+            word: nru::fresh(ways),
+        };
+    }
     Outcome {
         reply: Reply::Done,
-        word: nru::fresh(ways),
+        word: lru::fresh(ways),
     }
 }
 
@@ -183,9 +209,15 @@ pub fn own(ways: usize, rule: usize, word: u64, map: u16) -> Outcome
             word: tree::own(ways, word, map),
         };
     }
+    if rule == 1 {
+        return Outcome {
+            reply: Reply::Done,
+            word: nru::own(word, map),
+        };
+    }
     Outcome {
         reply: Reply::Done,
-        word: nru::own(word, map),
+        word: lru::own(ways, word, map),
     }
 }
 

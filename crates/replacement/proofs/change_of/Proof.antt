@@ -1,8 +1,12 @@
 -- `replacement::change_of` meets its contract.
-use mathlib.Core.Path.{sym, ap, _∙_}
+use mathlib.Core.Path.{_≡_, sym, ap, _∙_}
+use mathlib.Core.Bool.{true, not, _&&_}
+use Prim.Native.Nat.{ℕ}
+use Rattle.waymap.specs.Bits.{reaches}
+use Rattle.replacement.specs.Calls.{inLimits}
 use Rattle.replacement.specs.Change.{changeOf}
-use Rattle.replacement.specs.declared.Change.the-variants.{Clear, Raise}
-use Rattle.replacement.proofs.CallLaws.{one, either-reach}
+use Rattle.replacement.specs.declared.Change.the-variants.{Clear, Raise, Age}
+use Rattle.replacement.proofs.CallLaws.{two, either-reach}
 use borrow.Author.Needs.{needs}
 use Rattle.replacement.proofs.change_of.Statement.{statement}
 use Rattle.replacement.proofs.change_of.Tie as tie
@@ -28,21 +32,25 @@ returns-2 c =
           ∙ sym (c .before .fits2 .ensures) ∙ c .if2 .left,
     )
 
+-- Behind its two tests the maps are within the limits.
+module _ (c : tie.Then2) where
+  abbrev entry : tie.Start
+  entry = c .before .before .before .before
+
+  limits : inLimits (entry .args .ways) (entry .args .rule) ≡ true
+  limits = sym (c .before .before .before .in-limits .ensures) ∙ c .before .before .if1 .taken
+
+  reach : (not (reaches (entry .args .ways) (entry .args .old)) && not (reaches (entry .args .ways) (entry .args .new))) ≡ true
+  reach = either-reach (entry .args .ways) (entry .args .old) (entry .args .new) ∙ sym (c .before .fits2 .ensures) ∙ c .if2 .taken
+
 change-requires : tie.Need-change-requires
 change-requires c κs = search needs
 
 returns-3 : tie.Need-returns-3
 unfolding changeOf
 returns-3 c =
-    let a = c .before .before .before .before .before .before .args in
-    rw (
-      sym (c .before .before .before .before .before .in-limits .ensures)
-          ∙ c .before .before .before .before .if1 .taken,
-      either-reach (a .ways) (a .old) (a .new) ∙ sym (c .before .before .before .fits2 .ensures)
-          ∙ c .before .before .if2 .taken,
-      c .before .if3 .taken,
-    )
-    (ap Clear (c .change .ensures))
+    let t = c .before .before in
+    rw (limits t, reach t, c .before .if3 .taken) (ap Clear (c .change .ensures))
 
 change-requires-2 : tie.Need-change-requires-2
 change-requires-2 c κs = search needs
@@ -50,15 +58,18 @@ change-requires-2 c κs = search needs
 returns-4 : tie.Need-returns-4
 unfolding changeOf
 returns-4 c =
-    let a = c .before .before .before .before .before .before .args in
-    let limits = sym (c .before .before .before .before .before .in-limits .ensures) ∙ c .before .before .before .before .if1 .taken in
-    rw (
-      limits,
-      either-reach (a .ways) (a .old) (a .new) ∙ sym (c .before .before .before .fits2 .ensures)
-          ∙ c .before .before .if2 .taken,
-      one (a .ways) (a .rule) limits (c .before .if3 .left),
-    )
-    (ap Raise (c .change2 .ensures))
+    let t = c .before .before .before in
+    rw (limits t, reach t, c .before .if4 .taken) (ap Raise (c .change2 .ensures))
+
+change-requires-3 : tie.Need-change-requires-3
+change-requires-3 c κs = search needs
+
+returns-5 : tie.Need-returns-5
+unfolding changeOf
+returns-5 c =
+    let t = c .before .before .before in
+    rw (limits t, reach t, two _ _ (limits t) (c .before .before .if3 .left) (c .before .if4 .left))
+    (ap (λ (moves : ℕ). Age (entry t .args .ways) moves) (c .change3 .ensures))
 
 pub change-of-spec : {M : Type 1} → statement M
 change-of-spec =
@@ -71,4 +82,6 @@ change-of-spec =
     change-requires
     returns-3
     change-requires-2
-    returns-4)
+    returns-4
+    change-requires-3
+    returns-5)

@@ -4,9 +4,8 @@ use mathlib.Core.Bool.{true, false}
 use lib.Bits.{bitOr}
 use borrow.Author.Tests.{not-true}
 use Rattle.waymap.specs.Bits.{reaches}
-use Rattle.replacement.specs.Rule.{Rule}
 use Rattle.replacement.specs.Calls.{inLimits, sharesOf}
-use Rattle.replacement.proofs.CallLaws.{either-reach, is-nru, shares-given, shares-by-tree}
+use Rattle.replacement.proofs.CallLaws.{either-reach, no-nodes, shares-given, shares-by-tree}
 use borrow.Author.Needs.{needs}
 use Rattle.replacement.proofs.conflict.Statement.{statement}
 use Rattle.replacement.proofs.conflict.Tie as tie
@@ -44,9 +43,8 @@ module _ (c : tie.Then2) where
 
 returns-3 : tie.Need-returns-3
 returns-3 c =
-    let a = entry (c .before) .args in
-    shares-given (a .ways) (a .rule) (a .map) (a .other) (limits (c .before)) (reach (c .before))
-    (ap (λ (R : Rule). R .shares (a .map) (a .other)) (is-nru (a .ways) (a .rule) (limits (c .before)) (c .if3 .taken)))
+    let t = c .before in
+    shares-given _ _ _ _ (limits t) (reach t) (no-nodes _ _ _ _ (c .if3 .taken))
 
 shares-requires : tie.Need-shares-requires
 shares-requires c κs = search needs

@@ -5,7 +5,7 @@ use borrow.Author.Tests.{not-true}
 use Rattle.waymap.specs.Bits.{bit, any, reaches}
 use Rattle.waymap.proofs.MapLaws.{none-empty}
 use Rattle.replacement.specs.Calls.{inLimits, victimOf}
-use Rattle.replacement.proofs.CallLaws.{some-way, victim-by-tree, victim-by-nru}
+use Rattle.replacement.proofs.CallLaws.{some-way, victim-by-tree, victim-by-nru, victim-by-lru}
 use borrow.Author.Needs.{needs}
 use Rattle.replacement.proofs.victim.Statement.{statement}
 use Rattle.replacement.proofs.victim.Tie as tie
@@ -60,8 +60,16 @@ victim-requires-2 c κs = search needs
 
 returns-5 : tie.Need-returns-5
 returns-5 c =
-    let t = c .before .before in
-    victim-by-nru _ _ _ _ (limits t) (reach t) (some t) (entry t .fits .map .fits) (c .before .if4 .left) (c .victim2 .ensures)
+    let t = c .before .before .before in
+    victim-by-nru _ _ _ _ (limits t) (reach t) (some t) (entry t .fits .map .fits) (c .before .if5 .taken) (c .victim2 .ensures)
+
+victim-requires-3 : tie.Need-victim-requires-3
+victim-requires-3 c κs = search needs
+
+returns-6 : tie.Need-returns-6
+returns-6 c =
+    let t = c .before .before .before in
+    victim-by-lru _ _ _ _ (limits t) (reach t) (some t) (c .before .before .if4 .left) (c .before .if5 .left) (c .victim3 .ensures)
 
 pub victim-spec : {M : Type 1} → statement M
 victim-spec =
@@ -75,4 +83,6 @@ victim-spec =
     victim-requires
     returns-4
     victim-requires-2
-    returns-5)
+    returns-5
+    victim-requires-3
+    returns-6)
