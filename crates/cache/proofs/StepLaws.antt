@@ -13,6 +13,7 @@ use Rattle.waymap.specs.Ways.{isWays}
 use Rattle.waymap.proofs.Booleans.{cases, and-left}
 use Rattle.replacement.specs.Rule.{ruleOf}
 use Rattle.replacement.specs.Calls.{inLimits}
+use Rattle.replacement.proofs.CallLaws.{ways}
 use Rattle.row.specs.Row.{Row, Effect}
 use Rattle.policy.specs.Policy.{asRead, newMaps}
 use Rattle.sweep.specs.Clean.{dropped, droppedDirty, cleaned}
@@ -63,7 +64,7 @@ line-work : (g : Geometry) (y : LineUse) (p : Maps) (tag : ℕ) (r : Row) → in
 unfolding workOf flushOf accessOf inLimits
 line-work g Load p tag r limits h = rw (h, limits)
 line-work g Store p tag r limits h = rw (h, limits)
-line-work g Flush p tag r limits h = rw (h, and-left (isWays (g .ways)) (ltb (g .rule) 2) limits)
+line-work g Flush p tag r limits h = rw (h, ways (g .ways) (g .rule) limits)
 
 module _ (g : Geometry) (d : ℕ) (y : LineUse) (arg : ℕ) (t : Tables) (ds : Domains) (h : Shaped g t) where
   abbrev before : State
