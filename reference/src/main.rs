@@ -2,9 +2,10 @@
 //!
 //! It reads a trace file from standard input and writes the listing that document 01, "Trace file and listing",
 //! defines; with the argument `rules` it writes what the replacement rules called alone give. It was written from
-//! document 01 and, for true LRU, document 02 alone, without a look at the proved code and without packages, so that
-//! `tools/compare` can set the two beside each other. Nothing here is proved: where the two programs differ, these
-//! documents decide which of them is wrong.
+//! document 01 and, for true LRU, document 02, without packages, so that `tools/compare` can set it beside the proved
+//! programs. The rules, [`tree`], [`nru`] and [`lru`], were written without a look at their proved code. [`rules`] and
+//! `HandOver` in [`replacement`] were not: the source of the crate replacement had been read, for its public calls.
+//! Nothing here is proved: where two programs differ, these documents decide which of them is wrong.
 //!
 //! Each module is one part of document 01, or of document 02 where it says so, and quotes the sentence that it follows.
 //! A module uses only modules that stand before it in this list:
