@@ -10,6 +10,7 @@ import subprocess
 import tempfile
 import time
 from dataclasses import dataclass
+from typing import Callable
 
 from families import make
 from traces import GEOMETRIES, HEADER, step_of
@@ -35,12 +36,12 @@ class Outcome:
     complaints: bytes = b""
 
 
-def run(program, data, timeout, pauses=False):
+def run(program, data, timeout, pauses=False, arguments=()):
     """Gives a program a file through a pipe; with pauses, in three pieces, so that one read cannot bring it whole."""
     middle = min(len(data) // 2, 30_000)  # no more than a pipe takes at once
     cuts = [0, middle // 10, middle] if pauses else [0]
     pipe = subprocess.PIPE
-    with subprocess.Popen([program], stdin=pipe, stdout=pipe, stderr=pipe) as process:
+    with subprocess.Popen([program, *arguments], stdin=pipe, stdout=pipe, stderr=pipe) as process:
         try:
             for start, end in itertools.pairwise(cuts):
                 os.write(process.stdin.fileno(), data[start:end])
@@ -77,11 +78,11 @@ def shares(families, count):
     return [1 + end - start for start, end in zip([0] + ends, ends)]
 
 
-def made_files(families, options):
+def made_files(families, count, seed):
     """For each family its name, what it is, and its files, made one by one."""
-    for family, number in zip(families, shares(families, options.files)):
-        files = (File(family.name, f"seed-{options.seed}-{family.name}-{index}", make(family, options.seed, index),
-                      family.pauses) for index in range(number))
+    for family, number in zip(families, shares(families, count)):
+        files = (File(family.name, f"seed-{seed}-{family.name}-{index}", make(family, seed, index), family.pauses)
+                 for index in range(number))
         yield family.name, family.about, files
 
 
@@ -193,23 +194,39 @@ def describe_ending(outcome):
 
 
 @dataclass(frozen=True)
+class Subject:
+    """What is compared: the words that ask for it, of the reference and of tools/compare; the census of what came up in
+    it; and a function that says of a file what a line, from 0, of the output is about."""
+
+    asked_of_reference: tuple
+    asked_of_compare: str
+    census: type
+    describe: Callable[[bytes, int], str]
+
+
+LISTINGS = Subject((), "", Census, describe_step)
+
+
+@dataclass(frozen=True)
 class Difference:
+    subject: Subject
     file: File
     proved: Outcome
     reference: Outcome
     kept: pathlib.Path
 
     def print(self):
+        again = f"tools/compare {short_path(self.kept)}{self.subject.asked_of_compare}"
         print(f"first difference: {self.file.name}, of family {self.file.family}")
         print(f"  kept       {short_path(self.kept)}")
-        print(f"  rerun      tools/compare {short_path(self.kept)}  (with the same --proved and --reference)")
+        print(f"  rerun      {again}  (with the same --proved and --reference)")
         if self.proved.status != 0 or self.reference.status != 0:
             print(f"  proved     {describe_ending(self.proved)}")
             print(f"  reference  {describe_ending(self.reference)}")
         other = first_other_line(self.proved.listing, self.reference.listing)
         if other:
             line, in_proved, in_reference = other
-            print(f"  at         {describe_step(self.file.data, line)}")
+            print(f"  at         {self.subject.describe(self.file.data, line)}")
             print(f"  proved     {shown(in_proved)}")
             print(f"  reference  {shown(in_reference)}")
 
@@ -233,9 +250,9 @@ class Keeper:
 class Comparison:
     """Both programs, what they have been given so far, and what came of it."""
 
-    def __init__(self, proved, reference, options):
-        self.proved, self.reference, self.options = proved, reference, options
-        self.census = Census()
+    def __init__(self, proved, reference, subject, options):
+        self.proved, self.reference, self.subject, self.options = proved, reference, subject, options
+        self.census = subject.census()
         self.keeper = Keeper(options.keep)
         self.differences = []
         self.tried = 0
@@ -255,21 +272,22 @@ class Comparison:
         print(f"  {name:<12}{tried - len(found):>6} of {tried:<6} {about}{kept}", flush=True)
 
     def compare(self, file):
-        reference = run(self.reference, file.data, self.options.timeout, file.pauses)
-        proved = run(self.proved, file.data, self.options.timeout, file.pauses)
+        given = file.data, self.options.timeout, file.pauses
+        reference = run(self.reference, *given, self.subject.asked_of_reference)
+        proved = run(self.proved, *given)
         self.tried += 1
         self.census.take(reference.listing)
         if not agreed(proved, reference):
-            self.differences.append(Difference(file, proved, reference, self.keeper.keep(file)))
+            self.differences.append(Difference(self.subject, file, proved, reference, self.keeper.keep(file)))
 
 
-def report(proved, reference, families, options):
-    """Compares on all files and prints everything; the exit status."""
+def report(proved, reference, subject, made, options):
+    """Compares on all files, those named or those made, and prints everything; the exit status."""
     started = time.monotonic()
-    comparison = Comparison(proved, reference, options)
+    comparison = Comparison(proved, reference, subject, options)
     print(f"proved     {short_path(proved)}\nreference  {short_path(reference)}")
     print("agreed, by family" + ("" if options.paths else f", of seed {options.seed}"), flush=True)
-    for group in given_files(options.paths) if options.paths else made_files(families, options):
+    for group in given_files(options.paths) if options.paths else made:
         comparison.family(*group)
         if comparison.enough():
             print(f"given up after {len(comparison.differences)} differences (--stop-after)")

@@ -18,8 +18,7 @@ from traces import LOAD, MOST_STEPS, STORE, halved, header, submap
 SETS, WAYS = 256, 16
 HALF = WAYS // 2
 UPPER = (1 << WAYS) - (1 << HALF)  # the map of domain 1 at first; that of domain 0 is the lower half
-TREE, NRU = (0, "Tree-PLRU"), (1, "NRU")
-RULES = [TREE, NRU]
+RULES = [(0, "Tree-PLRU"), (1, "NRU"), (2, "LRU")]
 TOTAL = re.compile(rb"^totals: (\d+)$", re.MULTILINE)
 
 
@@ -63,7 +62,8 @@ def evictions(trace):
 def policies(trace):
     """Touches every set for both domains, then changes both maps of domain 1 to any ways of its half, and lets every
     eighth step be a load. Domain 0 keeps its maps and loads the line in its way 0 only: in all sets the tree's nodes
-    1, 3 and 7 stay ones, and the NRU bits of ways 1 to 7, so that no change finds a word that is zero."""
+    1, 3 and 7 stay ones, and the NRU bits of ways 1 to 7, so that no change finds a word that is zero; an order of
+    LRU never is."""
     rng = trace.rng
     for domain in (0, 1):
         for number in range(SETS):
@@ -77,16 +77,16 @@ def policies(trace):
 
 
 SORTS = [
-    ("hits", "nearly all steps hit, in all ways of 16 sets", [TREE], hits),
-    ("evictions", "nearly all steps evict, in 16 sets", RULES, evictions),
-    ("policies", "most steps are accepted changes that find no word zero", RULES, policies),
+    ("hits", "nearly all steps hit, in all ways of 16 sets", hits),
+    ("evictions", "nearly all steps evict, in 16 sets", evictions),
+    ("policies", "most steps are accepted changes that find no word zero", policies),
 ]
 
 
 def traces(seed):
     """Each trace, with its name and what its steps are. Under all rules a sort of trace has the same steps."""
-    for name, about, rules, add_steps in SORTS:
-        for rule, rule_name in rules:
+    for name, about, add_steps in SORTS:
+        for rule, rule_name in RULES:
             trace = halved(random.Random(f"{seed} {name}"), (SETS, WAYS, rule))
             add_steps(trace)
             yield f"{name}, {rule_name}", about, trace

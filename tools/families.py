@@ -117,7 +117,7 @@ def bad_geometry(rng, _index):
     sets, ways, rule = some_geometry(rng)
     bad_sets = rng.choice([0, 3, 5, 100, 255, 257, 258, 260, 512, 1024, 4096, 32768, 65535, rng.getrandbits(16)])
     bad_ways = rng.choice([0, 1, 3, 5, 6, 7, 9, 12, 15, 17, 18, 24, 32, 64, 128, 255, rng.getrandbits(8)])
-    bad_rule = rng.choice([2, 3, 4, 16, 128, 254, 255, rng.getrandbits(8)])
+    bad_rule = rng.choice([3, 4, 5, 16, 128, 254, 255, rng.getrandbits(8)])
     fault = rng.choice([1, 1, 2, 2, 4, 4, 3, 5, 6, 7])
     geometry = (bad_sets if fault & 1 else sets, bad_ways if fault & 2 else ways, bad_rule if fault & 4 else rule)
     trace = grow(Trace(rng, (sets, ways, rule)), Mix(), rng.randint(0, 20))
@@ -195,12 +195,14 @@ FAMILIES = [
            of_mix(Mix(policy=20, share=15, relock=10, crowd=(0.5, 2), used_sets=2, rules=(0,)))),
     Family("nru", "NRU with small maps and many evictions", 4,
            of_mix(Mix(policy=10, relock=10, crowd=(0.5, 2), used_sets=2, rules=(1,)))),
+    Family("lru", "LRU with hits that turn the order round, and ways that change hands", 6,
+           of_mix(Mix(policy=10, relock=10, move=8, crowd=(0.5, 1.5), used_sets=2, rules=(2,)))),
     Family("overlaps", "hit maps that share ways (8)", 4, of_mix(Mix(policy=25, overlap=20, anything=10))),
     Family("arguments", "policy arguments that are none (5)", 4, of_mix(Mix(policy=25, argument=30))),
     Family("strays", "unknown kinds, domains of 16 and more, domains without ways", 4,
            of_mix(Mix(stray=40, strangers=0.4))),
     Family("addresses", "lines from the whole 64 bits, tags of many digits", 4, of_mix(Mix(wide=0.9))),
-    Family("geometries", "each of the 72 geometries in turn, many sets in use", 4, each_geometry),
+    Family("geometries", "each of the 108 geometries in turn, many sets in use", 4, each_geometry),
     Family("wild", "random codes and arguments under a good header", 3, wild),
     Family("short", "0 to 8 steps", 3, short),
     Family("long", "4,096 steps, or one less", 2, long),

@@ -11,14 +11,18 @@ from dataclasses import dataclass
 from comparing import Census, agreed, run, short_path
 from traces import MOST_STEPS, Mix, grow, halved
 
+MIXED = Mix(used_sets=40)
+HITS = Mix(crowd=(0.5, 0.5), flush=1, policy=0, used_sets=40)
+EVICTIONS = Mix(crowd=(4, 4), flush=1, policy=0, used_sets=40)
+POLICIES = Mix(access=20, policy=70, used_sets=256)
 TRACES = [
-    ("mixed", "64 sets, 8 ways, Tree-PLRU, some of everything", (64, 8, 0), Mix(used_sets=40)),
-    ("hits", "64 sets, 8 ways, Tree-PLRU, mostly hits", (64, 8, 0),
-     Mix(crowd=(0.5, 0.5), flush=1, policy=0, used_sets=40)),
-    ("evictions", "64 sets, 8 ways, NRU, mostly evictions", (64, 8, 1),
-     Mix(crowd=(4, 4), flush=1, policy=0, used_sets=40)),
-    ("policies", "256 sets, 16 ways, Tree-PLRU, mostly policy changes", (256, 16, 0),
-     Mix(access=20, policy=70, used_sets=256)),
+    ("mixed", "64 sets, 8 ways, Tree-PLRU, some of everything", (64, 8, 0), MIXED),
+    ("hits", "64 sets, 8 ways, Tree-PLRU, mostly hits", (64, 8, 0), HITS),
+    ("hits", "64 sets, 8 ways, LRU, mostly hits", (64, 8, 2), HITS),
+    ("evictions", "64 sets, 8 ways, NRU, mostly evictions", (64, 8, 1), EVICTIONS),
+    ("evictions", "64 sets, 8 ways, LRU, mostly evictions", (64, 8, 2), EVICTIONS),
+    ("policies", "256 sets, 16 ways, Tree-PLRU, mostly policy changes", (256, 16, 0), POLICIES),
+    ("policies", "256 sets, 16 ways, LRU, mostly policy changes", (256, 16, 2), POLICIES),
 ]
 
 

@@ -11,7 +11,7 @@ from dataclasses import dataclass
 
 SETS = [1, 2, 4, 8, 16, 32, 64, 128, 256]
 WAYS = [2, 4, 8, 16]
-RULES = [0, 1]
+RULES = [0, 1, 2]  # Tree-PLRU, NRU, LRU
 GEOMETRIES = [(sets, ways, rule) for sets in SETS for ways in WAYS for rule in RULES]
 DOMAINS = 16
 FETCH, LOAD, STORE, FLUSH, POLICY = 0, 1, 2, 3, 16
@@ -255,7 +255,7 @@ class Mix:
     stores: float = 0.35  # of the accesses
     wide: float = 0.1  # of the lines: tags of many bits
     strangers: float = 0.03  # of accesses and flushes: by a domain of any number below 16
-    rules: tuple = (0, 1)
+    rules: tuple = tuple(RULES)
 
     def changes(self):
         """The policy changes and their weights."""

@@ -4,7 +4,7 @@ use crate::domains::{Counts, Domains, Policy};
 use crate::geometry::Geometry;
 use crate::maps::{holds, lowest, only, Map};
 use crate::refusals::judge;
-use crate::replacement;
+use crate::replacement::{self, HandOver};
 use crate::steps::{Answer, Kind, Step};
 
 #[cfg(test)]
@@ -22,8 +22,7 @@ pub struct Cache {
 }
 
 impl Cache {
-    /// "Fresh: all zero, except that under NRU the low W bits of each replacement word are one. All policies and
-    /// counts are zero."
+    /// "Fresh: all zero", but for what the rule puts into the replacement words. "All policies and counts are zero."
     pub fn fresh(geometry: Geometry) -> Cache {
         Cache {
             geometry,
@@ -130,22 +129,24 @@ impl Cache {
         Answer::Flush { way, dirty }
     }
 
-    /// "Both maps are stored. Ways in exactly one of the old and new hit maps are cleaned in every set." The
-    /// replacement bits change hands, in every set, by the fill maps. "The answer is the number of valid lines dropped
-    /// and how many of them were dirty; counts do not move. Two zero maps remove the domain and zero its counts."
-    #[inline(never)] // so that the loop over the sets has the registers to itself
+    /// "Both maps are stored. Ways in exactly one of the old and new hit maps are cleaned in every set." What the
+    /// replacement words hold changes hands, in every set, by the fill maps. "The answer is the number of valid lines
+    /// dropped and how many of them were dirty; counts do not move. Two zero maps remove the domain and zero its
+    /// counts."
+    #[inline(never)] // so that the loops over the sets have the registers to themselves
     fn change_policy(&mut self, domain: usize, new: Policy) -> Answer {
         let old = self.domains.policy(domain);
         let cleaned = old.hit_map ^ new.hit_map;
-        let own = |fill_map| replacement::own_bits(&self.geometry, fill_map);
-        let changed = own(old.fill_map) ^ own(new.fill_map);
+        let hand_over = HandOver::between(&self.geometry, old.fill_map, new.fill_map);
         let (mut dropped, mut dirty_dropped) = (0, 0);
         for set in 0..self.geometry.sets {
             let lines = cleaned & self.valid[set];
             dropped += lines.count_ones();
             dirty_dropped += (lines & self.dirty[set]).count_ones();
             self.clean(set, cleaned);
-            self.replacement[set] = replacement::hand_over(&self.geometry, self.replacement[set], changed);
+        }
+        for word in &mut self.replacement {
+            *word = hand_over.of(*word);
         }
         self.domains.store(domain, new);
         if new == Policy::default() {

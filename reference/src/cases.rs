@@ -1,8 +1,8 @@
-//! Cases A to L of document 01.
+//! Cases A to L of document 01, and what document 02 adds to them.
 
 use crate::geometry::Geometry;
 use crate::maps::Map;
-use crate::{listing, nru, tree};
+use crate::{listing, nru, rules, tree};
 
 /// (domain, kind, argument)
 type Code = (u8, u8, u64);
@@ -95,8 +95,10 @@ fn case_f_maps_5_and_10_share_node_1() {
     assert_eq!(tree::free_nodes(8, 5) & tree::free_nodes(8, 10), 1 << 1);
     let listing = list(1, 8, 0, &[policy(0, 5), policy(1, 10)]);
     assert_eq!(listing, "1 8 0 2\n0 policy 0 0\n1 refused 9\ndomain 0 0 0 0 0 0\n");
-    let under_nru = list(1, 8, 1, &[policy(0, 5), policy(1, 10)]);
-    assert!(under_nru.contains("\n1 policy 0 0\n"));
+    for rule in [1, 2] {
+        let without_nodes = list(1, 8, rule, &[policy(0, 5), policy(1, 10)]);
+        assert!(without_nodes.contains("\n1 policy 0 0\n"), "rule {rule}");
+    }
 }
 
 #[test]
@@ -132,7 +134,7 @@ fn every_other_geometry() {
     }
     for number in 0..=u8::MAX {
         assert_eq!(Geometry::new(4, number, 0).is_ok(), [2, 4, 8, 16].contains(&number), "{number} ways");
-        assert_eq!(Geometry::new(4, 16, number).is_ok(), number <= 1, "rule {number}");
+        assert_eq!(Geometry::new(4, 16, number).is_ok(), number <= 2, "rule {number}");
     }
 }
 
@@ -159,6 +161,65 @@ fn every_wrong_length() {
     }
     let longer = [&whole[..], &[0]].concat();
     assert_eq!(listing::of_file(&longer), "refused 10\n");
+}
+
+/// Four ways under LRU, of which domain 0 has the upper three. Way 1 is filled first and hit again; then way 2 is the
+/// victim, and then way 3.
+#[test]
+fn under_lru_the_victim_is_the_way_used_longest_ago() {
+    let mut steps = vec![policy(0, 14)];
+    steps.extend([0, 64, 128, 0, 192, 64].map(|address| (0, LOAD, address)));
+    let listing = list(1, 4, 2, &steps);
+    let lines: Vec<&str> = listing.lines().collect();
+    let due = ["2 fill 2", "3 fill 3", "4 hit 1", "5 evict 2 1 0", "6 evict 3 2 0", "domain 0 1 5 2 0 0"];
+    assert_eq!(lines[..3], ["1 4 2 7", "0 policy 0 0", "1 fill 1"]);
+    assert_eq!(lines[3..], due);
+}
+
+/// The rules called alone, four ways under LRU: map 15 and word 0; then map 16, which no call takes.
+const ALONE: &str = "\
+fresh 291
+own 291
+victim 0 0
+touch 0 4656
+touch 1 561
+touch 2 306
+touch 3 0
+touch 4 refused 5
+change 0
+conflict 0
+own refused 5
+victim refused 5
+touch 0 refused 5
+touch 1 refused 5
+touch 2 refused 5
+touch 3 refused 5
+touch 4 refused 5
+change 306
+conflict 5
+";
+
+#[test]
+fn the_rules_called_alone() {
+    let entries = [(15, 0, 0), (16, 0, 306)];
+    assert_eq!(rules::of_file(&file(1, 4, 2, &entries)), ALONE);
+    assert_eq!(rules::of_file(&file(1, 4, 3, &entries)), "refused 1\n");
+    assert_eq!(rules::of_file(&[]), "refused 10\n");
+}
+
+/// Maps 5 and 10 as in case F, 6 and word 0 as in case I, and no victim of an empty map.
+#[test]
+fn conflicts_and_victims_of_the_rules_called_alone() {
+    let entries = [(5, 0, 0), (10, 0, 0), (6, 0, 0), (0, 0, 0)];
+    let of_rule = |rule, word: &str| -> Vec<String> {
+        let text = rules::of_file(&file(1, 8, rule, &entries));
+        text.lines().filter(|line| line.starts_with(word)).map(String::from).collect()
+    };
+    assert_eq!(of_rule(0, "conflict"), ["conflict 0", "conflict 9", "conflict 9", "conflict 0"]);
+    assert_eq!(of_rule(1, "conflict"), ["conflict 0"; 4]);
+    assert_eq!(of_rule(2, "conflict"), ["conflict 0"; 4]);
+    assert_eq!(of_rule(1, "victim"), ["victim 0 5", "victim 1 10", "victim 1 6", "victim refused 5"]);
+    assert_eq!(of_rule(2, "victim"), ["victim 0 0", "victim 1 0", "victim 1 0", "victim refused 5"]);
 }
 
 /// n is a number of 32 bits: 10 × n in 32 bits would make 3 + 2^31 steps look like 3.

@@ -9,6 +9,7 @@ const LINE_BYTES: u64 = 64;
 pub enum Rule {
     TreePlru = 0,
     Nru = 1,
+    Lru = 2,
 }
 
 #[derive(Clone, Copy, PartialEq, Eq, Debug)]
@@ -19,11 +20,13 @@ pub struct Geometry {
 }
 
 impl Geometry {
-    /// "Sets S: a power of two, 1 to 256. Ways W: 2, 4, 8 or 16. Rule: 0 Tree-PLRU, 1 NRU."
+    /// "Sets S: a power of two, 1 to 256. Ways W: 2, 4, 8 or 16. Rule: 0 Tree-PLRU, 1 NRU." And by document 02, "1 now
+    /// admits rule 2", true LRU.
     pub fn new(sets: u16, ways: u8, rule: u8) -> Result<Geometry, Refusal> {
         let rule = match rule {
             0 => Rule::TreePlru,
             1 => Rule::Nru,
+            2 => Rule::Lru,
             _ => return Err(Refusal::Geometry),
         };
         let sets_stand = (1..=256).contains(&sets) && sets.is_power_of_two();

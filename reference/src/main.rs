@@ -1,29 +1,32 @@
 //! The reference lister.
 //!
 //! It reads a trace file from standard input and writes the listing that document 01, "Trace file and listing",
-//! defines. It was written from document 01 alone, without a look at the proved code and without packages, so that
-//! `tools/compare` can set the two beside each other. Nothing here is proved: where the two programs differ, document
-//! 01 decides which of them is wrong.
+//! defines; with the argument `rules` it writes what the replacement rules called alone give. It was written from
+//! document 01 and, for true LRU, document 02, without packages, so that `tools/compare` can set it beside the proved
+//! programs. The rules, [`tree`], [`nru`] and [`lru`], were written without a look at their proved code. [`rules`] and
+//! `HandOver` in [`replacement`] were not: the source of the crate replacement had been read, for its public calls.
+//! Nothing here is proved: where two programs differ, these documents decide which of them is wrong.
 //!
-//! Each module is one part of document 01, and quotes the sentence that it follows. A module uses only modules that
-//! stand before it in this list:
+//! Each module is one part of document 01, or of document 02 where it says so, and quotes the sentence that it follows.
+//! A module uses only modules that stand before it in this list:
 //!
 //! 1. [`numbers`]: the numbers that turn a step down
 //! 2. [`maps`]: maps of ways
 //! 3. [`geometry`]: sets, ways, rule; where an address falls
-//! 4. [`tree`], [`nru`]: the two replacement rules, neither of which uses the other
+//! 4. [`tree`], [`nru`], [`lru`]: the three replacement rules, none of which uses another
 //! 5. [`replacement`]: the rule in use, by the geometry
 //! 6. [`steps`]: what a step asks for, and what it may be answered
 //! 7. [`domains`]: policies and counts
 //! 8. [`refusals`]: when a step is turned down, by the geometry and the domains
 //! 9. [`cache`]: the tables, access, flush and policy change
 //! 10. [`trace`]: the trace file
-//! 11. [`listing`]: the text
+//! 11. [`listing`]: the text of a trace
+//! 12. [`rules`]: the text of the rules called alone; it does not use `listing`
 //!
 //! Above them are this file and, in tests only, `cases`.
 //!
-//! What a trace file cannot cause is left out: number 2 (the tables are made here, with the right lengths) and the
-//! numbers 1 and 5 that the replacement rules answer when they are called alone.
+//! What a file cannot cause is left out: number 2 (the tables are made here, with the right lengths) and the number 1
+//! that the replacement rules answer when they are called alone (a file with such ways or such a rule is refused).
 
 mod cache;
 #[cfg(test)]
@@ -31,15 +34,18 @@ mod cases;
 mod domains;
 mod geometry;
 mod listing;
+mod lru;
 mod maps;
 mod nru;
 mod numbers;
 mod refusals;
 mod replacement;
+mod rules;
 mod steps;
 mod trace;
 mod tree;
 
+use std::env;
 use std::io::{self, Read, Write};
 
 /// Standard input, to its end. Of a file longer than the largest one that stands, one byte too many is kept: enough
@@ -52,7 +58,18 @@ fn read_file() -> io::Result<Vec<u8>> {
     Ok(file)
 }
 
+/// What is to be written about a file, by the arguments of the program.
+fn text_wanted() -> io::Result<fn(&[u8]) -> String> {
+    let mut arguments = env::args_os().skip(1);
+    match (arguments.next(), arguments.next()) {
+        (None, _) => Ok(listing::of_file),
+        (Some(word), None) if word == "rules" => Ok(rules::of_file),
+        _ => Err(io::Error::other("usage: reference [rules] < FILE")),
+    }
+}
+
 fn main() -> io::Result<()> {
+    let text_of = text_wanted()?;
     let file = read_file()?;
-    io::stdout().lock().write_all(listing::of_file(&file).as_bytes())
+    io::stdout().lock().write_all(text_of(&file).as_bytes())
 }

@@ -1,5 +1,5 @@
 //! "When a step is turned down": the numbers. What is asked for each of them stands where it is asked: number 10 in
-//! `trace`, 1 in `geometry`, the others in `refusals`.
+//! `trace`, 1 in `geometry`, the others in `refusals`; 5 and 9 of the rules called alone in `rules`.
 
 /// The refusals that a trace file can meet, each with its number. (No file of 4,096 steps reaches `CountSpent`.)
 #[derive(Clone, Copy, PartialEq, Eq, Debug)]

@@ -5,12 +5,11 @@ use mathlib.Core.List.{List, [], _∷_}
 use Prim.Native.Nat.{ℕ, zero, suc, _/_, _<_}
 use native.Mathlib.Nat.{mod-lt}
 use native.Mathlib.Omega.{arith}
-use lib.Dec.{eqb, ltb}
+use lib.Dec.{eqb}
 use lib.ListN.{length, getD, set}
 use borrow.Author.Tests.{ne-eqb}
 use denote.Enum.Declared.{tagOf as variantOf}
-use Rattle.waymap.specs.Ways.{isWays}
-use Rattle.waymap.proofs.Booleans.{cases, and-left}
+use Rattle.waymap.proofs.Booleans.{cases}
 use Rattle.replacement.specs.Rule.{ruleOf}
 use Rattle.replacement.specs.Calls.{inLimits}
 use Rattle.replacement.proofs.CallLaws.{ways}

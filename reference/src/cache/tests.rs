@@ -127,6 +127,35 @@ fn replacement_bits_are_handed_over_clean() {
     assert_eq!(cache.replacement[0], 0);
 }
 
+/// Under LRU, first way 2 changes hands, which is at the old end in sets 1 and 2; then ways 0 and 2; then way 0, which
+/// is at the old end of every word as read: though zero is no order, it stays.
+#[test]
+fn an_order_is_handed_over_set_by_set() {
+    let mut cache = Cache::fresh(Geometry { sets: 4, ways: 4, rule: Rule::Lru });
+    assert_eq!(cache.replacement, [0x0123; 4]);
+    cache.replacement = vec![0, 0x2130, 0x2301, 0x1_0123];
+    cache.step(&policy(4, 4));
+    assert_eq!(cache.replacement, [0x2013, 0x2130, 0x2301, 0x2013]);
+    cache.replacement = vec![0; 4];
+    cache.step(&policy(5, 1));
+    assert_eq!(cache.replacement, [0x0213; 4]);
+    cache.replacement = vec![0; 4];
+    cache.step(&policy(0, 0));
+    assert_eq!(cache.replacement, [0; 4]);
+}
+
+/// Way 3 is the most recent of a fresh order. Filling and hitting it leaves a word that is no order as it is.
+#[test]
+fn a_step_that_leaves_the_order_leaves_the_word() {
+    let mut cache = cache(4, Rule::Lru);
+    cache.step(&policy(15, 8));
+    cache.replacement[0] = 0;
+    assert_eq!(cache.step(&store(0)), Answer::Fill { way: 3 });
+    assert_eq!(cache.step(&store(1)), Answer::Evict { way: 3, tag: 0, dirty: true });
+    assert_eq!(cache.step(&store(1)), Answer::Hit { way: 3 });
+    assert_eq!(cache.replacement[0], 0);
+}
+
 /// With lent policies that overlap, a change that shrinks and still overlaps is 8; a removal is accepted.
 #[test]
 fn overlapping_policies_are_read_as_they_are() {
