@@ -8,7 +8,7 @@ from frontend.tracefile import LARGEST_BYTE, LARGEST_SETS, MAX_STEPS, RULES, Ste
 _DIGITS = "0123456789"
 _HEADERS = {"sets": (LARGEST_SETS, "sets 64"), "ways": (LARGEST_BYTE, "ways 8"), "rule": (LARGEST_BYTE, "rule tree")}
 _RULE_NUMBERS = {**{name: number for number, name in RULES.items()}, "tree-plru": 0}
-_RULES_ARE = "Rules are tree (or tree-plru), nru, or a number"
+_RULES_ARE = "Rules are tree (or tree-plru), nru, lru, or a number"
 _LINES_ARE = "A line is 'sets N', 'ways N', 'rule NAME' or a step, 'DOMAIN KIND ARGUMENT'"
 
 

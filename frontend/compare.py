@@ -7,8 +7,9 @@ from dataclasses import dataclass
 from frontend import maps, stepper, words
 from frontend.errors import MachineFailure
 from frontend.listing import Answer, Listing
+from frontend.numbers import counted
 from frontend.run import Run
-from frontend.tracefile import POLICY, Step
+from frontend.tracefile import LRU, POLICY, Step
 
 
 @dataclass(frozen=True)
@@ -111,15 +112,29 @@ def _lines(whole: Run, struck: Run, domain: int) -> list[Ending]:
     return different or [Ending((f"{valid} valid", f"{valid} valid"), "lines in its ways")]
 
 
-def _own_bits(whole: Run, struck: Run, domain: int) -> list[Ending]:
-    """Compare the domain's own replacement bits, set by set: each set that differs, or how many bits are one."""
-    endings = [
-        Ending((f"{left:#x}", f"{right:#x}"), f"own replacement bits of set {number}")
-        for number, (left, right) in enumerate(zip(whole.own, struck.own))
-    ]
+def _own_data(whole: Run, struck: Run, domain: int) -> list[Ending]:
+    """Compare the domain's own replacement data, set by set: each set that differs, or what they have in all."""
+    left, right = (_own_parts(run, domain) for run in (whole, struck))
+    endings = [Ending(seen, f"own replacement data of set {number}") for number, seen in enumerate(zip(left, right))]
     different = [ending for ending in endings if not ending.same]
-    ones = sum(bin(part).count("1") for part in whole.own)
-    return different or [Ending((f"{ones} one", f"{ones} one"), "own replacement bits")]
+    in_all = _own_in_all(whole, left)
+    return different or [Ending((in_all, in_all), "own replacement data")]
 
 
-_AT_THE_END = (_counts, _maps, _lines, _own_bits)  # whatever else is compared at the end is one more function here
+def _own_parts(run: Run, domain: int) -> list[str]:
+    """Write the domain's own part of each set's replacement word: bits, or the order of its fill ways."""
+    if run.trace.rule != LRU:
+        return [f"{part:#x}" for part in run.own]
+    ways = maps.members(run.blocks[-1].fill[domain])
+    return [words.order(part, ways) or f"{part:#x}" for part in run.own]
+
+
+def _own_in_all(run: Run, parts: list[str]) -> str:
+    """Sum up the own parts of all sets: how many bits are one, or the one order that all have, or how many orders there are."""
+    if run.trace.rule == LRU:
+        return parts[0] if len(set(parts)) == 1 else counted(len(parts), "order")
+    ones = sum(bin(part).count("1") for part in run.own)
+    return f"{counted(ones, 'bit')} one"
+
+
+_AT_THE_END = (_counts, _maps, _lines, _own_data)  # whatever else is compared at the end is one more function here

@@ -12,7 +12,7 @@ from frontend.paint import Paint
 from frontend.run import Run
 from frontend.stepper import Block, Row
 from frontend.table import columns
-from frontend.tracefile import POLICY, Step
+from frontend.tracefile import LRU, POLICY, Step
 
 MOST_ROWS = 4
 _WIDTH = 100
@@ -101,13 +101,21 @@ class Explainer:
         return (_mark(*lines), f"way {way}", *lines, hit, fill)
 
     def _word(self, row: Row) -> str:
-        """Write a replacement word and where its bits are one."""
-        text = hexadecimal(row.word)
-        if not row.word or self._trace.rule not in _ONES:
-            return text
-        one, more = _ONES[self._trace.rule]
-        where = one if len(maps.members(row.word)) == 1 else more
-        return f"{text} ({where} {maps.places(row.word)})"
+        """Write a replacement word, and what it holds: an order of the ways, or where its bits are one."""
+        rule, ways = self._trace.rule, self._trace.ways
+        if rule == LRU:
+            text, held = hexadecimal(row.word, ways), words.order(row.word, list(range(ways)))
+        else:
+            text, held = hexadecimal(row.word), _ones(rule, row.word)
+        return f"{text} ({held})" if held else text
+
+
+def _ones(rule: int, word: int) -> str | None:
+    """Say where the bits of a replacement word are one, if any is."""
+    if not word or rule not in _ONES:
+        return None
+    one, more = _ONES[rule]
+    return f"{one if len(maps.members(word)) == 1 else more} {maps.places(word)}"
 
 
 def _maps(before: Block, after: Block) -> Iterator[str]:

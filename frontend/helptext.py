@@ -31,7 +31,7 @@ a line:
 
   sets 1                        a number that two bytes hold
   ways 4                        a number that one byte holds
-  rule tree                     tree (or tree-plru), nru, or a number
+  rule tree                     tree (or tree-plru), nru, lru, or a number
   0 load 0x40                   domain, kind (fetch, load, store, flush), address
   1 policy hit=0-3 fill=0,1     maps are lists of ways; none is the empty map
   1 policy hit=2,3 fill=way3    one way alone is way3: a 3 could be a map too
@@ -55,7 +55,7 @@ ISOLATE = """\
 Run a trace, and the trace with the accesses and flushes of all other domains
 struck out (by target/bin/purger), and show side by side what DOMAIN sees: the
 answers to its steps; at the end its line of the listing, its maps, the lines in
-its ways and its own replacement bits (by target/bin/parts); and whether the
+its ways and its own replacement data (by target/bin/parts); and whether the
 policy changes of other domains are accepted. That these are equal for every
 trace is the first claim of docs/CLAIMS.md. That the purger's list is the
 struck-out list is checked, step by step.
@@ -68,8 +68,9 @@ EXPLAIN = """\
 Tell a trace step by step: the step; the answer, as listed and in words; for a
 refused step why, and the fix; and the ways of its set before and after, as
 target/bin/stepper gives them: tag, dirty, invalid, the domains whose hit map and
-fill map hold the way, and the replacement word. What changed is marked '*'. A
-policy step shows the sets that it changed.
+fill map hold the way, and the replacement word, under true LRU also as the order
+of the ways. What changed is marked '*'. A policy step shows the sets that it
+changed.
 
 FILE is as for list. There is colour on a terminal only, unless NO_COLOR is set.
 """

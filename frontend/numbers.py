@@ -26,9 +26,10 @@ def is_mask(text: str) -> bool:
     return text[:2].lower() in ("0x", "0b")
 
 
-def hexadecimal(number: int) -> str:
-    """Write a number in hexadecimal, its digits in groups of four."""
-    return f"{number:#_x}"
+def hexadecimal(number: int, digits: int = 1) -> str:
+    """Write a number in hexadecimal, in at least so many digits, in groups of four."""
+    width = len("0x") + digits + (digits - 1) // 4
+    return f"{number:#0{width}_x}"
 
 
 def counted(number: int, thing: str) -> str:

@@ -7,10 +7,11 @@ from frontend import maps
 from frontend.listing import Answer
 from frontend.numbers import counted, hexadecimal
 from frontend.stepper import Row
-from frontend.tracefile import POLICY, Step, Trace
+from frontend.tracefile import LRU, POLICY, Step, Trace
 
-_RULE_TITLES = {0: "Tree-PLRU", 1: "NRU"}
+_RULE_TITLES = {0: "Tree-PLRU", 1: "NRU", LRU: "true LRU"}
 _VERBS = {0: "fetches at", 1: "loads at", 2: "stores at", 3: "flushes"}
+_PLACE = 4  # bits of a way's place in an order
 _COUNTS = ("hits", "misses", "evicted", "written back", "flushed")
 
 
@@ -29,7 +30,8 @@ class Refusal:
 REFUSALS = {
     1: Refusal(
         "The geometry is outside the limits.",
-        "Give a number of sets that is a power of two from 1 to 256; 2, 4, 8 or 16 ways; and rule 0 (tree) or 1 (nru).",
+        "Give a number of sets that is a power of two from 1 to 256; 2, 4, 8 or 16 ways;"
+        " and rule 0 (tree), 1 (nru) or 2 (lru).",
     ),
     2: Refusal(
         "A table does not have exactly the length that the geometry gives it.",
@@ -62,7 +64,7 @@ REFUSALS = {
         "A node of the tree would be free for this domain and for another one,"
         " so that each could turn a bit that the other's victim depends on.",
         "Choose fill maps such that no node has a way of each domain in its left half and a way of each in its right"
-        " half: aligned groups, such as ways 0,1 and ways 2,3, share no node. NRU has no nodes to share.",
+        " half: aligned groups, such as ways 0,1 and ways 2,3, share no node. NRU and true LRU have no nodes to share.",
     ),
     10: Refusal(
         "The trace file is under 8 bytes, not of its length, or has more than 4,096 steps.",
@@ -111,6 +113,17 @@ def line(row: Row, way: int) -> str:
     if not valid and not dirty and tag == 0:
         return "empty"
     return f"tag {tag}" + (", dirty" if dirty else "") + ("" if valid else ", invalid")
+
+
+def order(word: int, ways: list[int]) -> str | None:
+    """Say the order of some ways, given ascending, that a word holds in its places, the most recent in the lowest.
+
+    Without ways it is `none`. It is None if the word does not hold each of them once and nothing else: how the cache reads such a
+    word is not for the front end to say."""
+    held = [word >> _PLACE * place & (1 << _PLACE) - 1 for place in reversed(range(len(ways)))]
+    if sorted(held) != ways or word >> _PLACE * len(ways):
+        return None
+    return " ".join(("oldest first", *map(str, held))) if held else maps.NONE
 
 
 def counts(values: tuple[int, ...]) -> str:

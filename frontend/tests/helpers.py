@@ -76,7 +76,7 @@ def random_trace(source: random.Random, count: int) -> Trace:
         Step(pick(8, (0, 1, 15, 16)), pick(8, (0, 1, 2, 3, 16)), pick(64, (0, 64, 0x30003, 1 << 32, (1 << 64) - 1)))
         for _ in range(count)
     )
-    return Trace(pick(16, (1, 64, 256)), pick(8, (2, 4, 8, 16)), pick(8, (0, 1)), steps)
+    return Trace(pick(16, (1, 64, 256)), pick(8, (2, 4, 8, 16)), pick(8, (0, 1, 2)), steps)
 
 
 def block(maps: dict[int, tuple[int, int]], place: int = 0, rows: dict[int, Row] | None = None) -> bytes:

@@ -116,11 +116,12 @@ class TextErrors(unittest.TestCase):
         self.check("sets 1\nways 256\nrule nru", "2:6: '256' is too large; the number of ways goes from 0 to 255")
         self.check("sets 1\nways four\nrule nru", "2:6: 'four' is not a number; the number of ways is written")
         self.check("sets 1\nways 4\nrule 256", "3:6: '256' is too large; the number of a rule goes from 0 to 255")
-        rules = "Rules are tree (or tree-plru), nru, or a number"
+        rules = "Rules are tree (or tree-plru), nru, lru, or a number"
         self.check("sets 1\nways 4\nrule tre", f"3:6: unknown rule 'tre'; did you mean 'tree'? {rules}")
-        for word, meant in (("NRU", "nru"), ("Tree", "tree"), ("TREE_PLRU", "tree-plru"), ("treeplru", "tree-plru")):
+        spellings = {"NRU": "nru", "LRU": "lru", "Tree": "tree", "TREE_PLRU": "tree-plru", "treeplru": "tree-plru"}
+        for word, meant in spellings.items():
             self.check(f"sets 1\nways 4\nrule {word}", f"3:6: unknown rule '{word}'; did you mean '{meant}'? {rules}")
-        for word in ("xyz", "lru", "LRU", "plru", "true-lru", "bit-plru", "nmru", "mru", "n"):
+        for word in ("xyz", "plru", "true-lru", "bit-plru", "nmru", "mru", "n", "l"):
             self.check(f"sets 1\nways 4\nrule {word}", f"3:6: unknown rule '{word}'. {rules}")
         self.check("sets\nways 4\nrule nru", "1:5: 'sets' lacks its value; write it as in 'sets 64'")
         self.check("sets 1 2\nways 4\nrule nru", "1:8: unexpected '2'; a header line has one value, as in 'sets 64'")

@@ -8,9 +8,10 @@ from unittest import mock
 from frontend import listing, paint, stepper, tracefile
 from frontend.explain import MOST_ROWS, Explainer
 from frontend.paint import Paint
+from frontend.programs import ROOT
 from frontend.run import Run
 from frontend.stepper import Row
-from frontend.tests import case_a
+from frontend.tests import case_a, true_lru
 from frontend.tests.helpers import block, by_rote, call
 from frontend.tracefile import Step, Trace
 
@@ -70,6 +71,50 @@ class CaseA(unittest.TestCase):
     def test_hit_changes_nothing(self):
         self.assertIn("hit 0\n  A hit in way 0.", self.step(8))
         self.assertNotIn("*", self.step(8))
+
+
+class TrueLru(unittest.TestCase):
+    """The example of true LRU, whose words are orders."""
+
+    def story(self) -> str:
+        return told(tracefile.decode(true_lru.FILE), true_lru.LISTING, true_lru.STREAM)
+
+    def step(self, place: int) -> str:
+        return self.story().partition(f"\nstep {place} ")[2].partition("\n\n")[0]
+
+    def test_word(self):
+        self.assertTrue(self.story().startswith("1 set, 4 ways, rule 2 (true LRU), 13 steps\n"))
+        expected = """\
+ domain 0 loads at 0xc0
+  evict 1 1 0
+  A miss: the line with tag 1 was evicted from way 1 (not dirty), and the way was filled.
+     set 0  before                         after                          hit map   fill map
+     way 0  tag 0                          tag 0                          domain 0  domain 0
+  *  way 1  tag 1                          tag 3                          domain 0  domain 0
+     way 2  tag 2                          tag 2                          domain 0  domain 0
+     way 3  tag 0, dirty                   tag 0, dirty                   domain 1  domain 1
+  *  word   0x1203 (oldest first 1 2 0 3)  0x2031 (oldest first 2 0 3 1)"""
+        self.assertEqual(self.step(7), expected)
+
+    def test_a_place_is_a_digit(self):
+        self.assertIn("\n  *  word   0x0123 (oldest first 0 1 2 3)  0x3012 (oldest first 3 0 1 2)", self.step(1))
+
+    def test_orders_are_those_that_the_text_says(self):
+        text = (ROOT / "examples" / "true-lru.txt").read_text(encoding="ascii")
+        steps = [line for line in text.splitlines() if line[:1].isdigit()]
+        blocks = stepper.parse(true_lru.STREAM, tracefile.decode(true_lru.FILE))
+        said = {place: line.partition("oldest first ")[2][:7] for place, line in enumerate(steps) if "oldest first" in line}
+        self.assertEqual(list(said), [0, 1, 5, 6, 8, 9, 12])
+        for place, order in said.items():
+            word = stepper.rows_at_end(blocks[: place + 2])[0].word
+            self.assertEqual(f"{word:04x}", order.replace(" ", ""), place)
+
+    def test_a_word_that_is_no_order(self):
+        for word, written in ((0, "0x0000"), (0x3211, "0x3211"), (0x4321, "0x4321"), (0x1_0123, "0x1_0123")):
+            stream = block({}, 0, {0: Row(0, 0, word, (0,) * 4)}) + block({})
+            story = told(Trace(1, 4, 2, (Step(3, 0, 0),)), b"1 4 2 1\n0 pass\n", stream)
+            self.assertIn(f"\n     word   {written}  {written}\n", story)
+            self.assertNotIn("oldest", story)
 
 
 class Policies(unittest.TestCase):

@@ -2,6 +2,7 @@
 from __future__ import annotations
 
 import unittest
+from dataclasses import replace
 
 from frontend import isolate, listing, stepper, struck, tracefile
 from frontend.compare import compare
@@ -9,6 +10,7 @@ from frontend.errors import MachineFailure
 from frontend.paint import Paint
 from frontend.run import Run
 from frontend.stepper import Row
+from frontend.tests import true_lru
 from frontend.tests.helpers import block, by_rote, call
 from frontend.tracefile import Step, Trace
 
@@ -253,10 +255,10 @@ class Command(unittest.TestCase):
         self.assertEqual((status, out), (3, b""))
         self.assertIn("target/bin/lister takes the trace, but the struck-out trace is refused by 1", err)
 
-    def test_own_bits_that_differ(self):
+    def test_own_data_that_differs(self):
         status, out, err = self.isolate(STRUCK_LISTING, said_parts=(b"0\n", b"1\n"))
         self.assertEqual((status, err), (1, ""))
-        self.assertIn(b"own replacement bits of set 0", out)
+        self.assertIn(b"own replacement data of set 0", out)
         self.assertIn(b"'0x0' in the whole run, '0x1' in the struck-out run", out)
 
     def test_parts_that_are_not_whole(self):
@@ -273,3 +275,62 @@ class Command(unittest.TestCase):
         self.assertEqual(status, 1)
         self.assertIn(b"First difference", out)
         self.assertNotIn(b"\x1b", out)
+
+    def test_own_bits_are_counted(self):
+        for part, said in ((b"0\n", "0 bits one"), (b"1\n", "1 bit one"), (b"3\n", "2 bits one")):
+            status, out, _ = self.isolate(STRUCK_LISTING, said_parts=(part, part))
+            self.assertEqual(status, 0)
+            self.assertRegex(out.decode(), f"\n +own replacement data +{said} +{said}\n")
+
+
+class TrueLru(unittest.TestCase):
+    """The example of true LRU with programs that answer by rote: a domain's own data is the order of its fill ways."""
+
+    def isolate(self, parts: tuple[bytes, bytes]) -> tuple[int, str]:
+        whole = tracefile.decode(true_lru.FILE)
+        kept = tuple(step for place, step in enumerate(whole.steps) if place not in true_lru.STRUCK_PLACES)
+        struck_file = tracefile.encode(Trace(1, 4, 2, kept))
+        asked = tuple(tracefile.encode(Trace(1, 4, 2, (Step(7, 0, word),))) for word in true_lru.WORDS)
+        said = {
+            "lister": {true_lru.FILE: true_lru.LISTING, struck_file: true_lru.STRUCK_LISTING}.__getitem__,
+            "stepper": {true_lru.FILE: true_lru.STREAM, struck_file: true_lru.STRUCK_STREAM}.__getitem__,
+            "purger": lambda data, domain: {(true_lru.FILE, 0): lines_of(kept)}[data, domain],
+            "parts": dict(zip(asked, parts)).__getitem__,
+        }
+        with by_rote(**said):
+            status, out, err = call("isolate", "-", "0", stdin=true_lru.FILE)
+        self.assertEqual(err, "")
+        return status, out.decode()
+
+    def test_no_difference(self):
+        status, out = self.isolate((true_lru.OWN, true_lru.OWN))
+        self.assertEqual(status, 0, out)
+        self.assertIn("No difference: domain 0 sees the same in both runs.", out)
+        self.assertRegex(out, r"\n +own replacement data +oldest first 2 0 1 +oldest first 2 0 1\n")
+
+    def test_another_order(self):
+        status, out = self.isolate((true_lru.OWN, b"258\n"))  # 0x102
+        self.assertEqual(status, 1, out)
+        row = r"own replacement data of set 0 +oldest first 2 0 1 +oldest first 1 0 2 +<- first difference"
+        self.assertRegex(out, rf"\n\* +{row}\n")
+        seen = "'oldest first 2 0 1' in the whole run, 'oldest first 1 0 2' in the struck-out run."
+        self.assertIn(f"First difference: at the end, own replacement data of set 0: {seen}\n", out)
+
+    def test_a_part_that_is_no_order(self):
+        for part, written in ((b"0\n", "0x0"), (b"8209\n", "0x2011"), (b"515\n", "0x203")):
+            status, out = self.isolate((true_lru.OWN, part))
+            self.assertEqual(status, 1, out)
+            self.assertIn(f"'oldest first 2 0 1' in the whole run, '{written}' in the struck-out run", out)
+
+    def test_many_sets(self):
+        stream = block({}, 0, {number: Row(0, 0, 0x01, (0, 0)) for number in range(4)})
+        for fill, own, said in (
+            (3, (0x01, 0x10, 0x01, 0x01), "4 orders"),
+            (3, (0x01,) * 4, "oldest first 0 1"),
+            (2, (0x1,) * 4, "oldest first 1"),
+            (0, (0,) * 4, "none"),
+        ):
+            trace, listed = Trace(4, 2, 2, (Step(0, 16, 3 | fill << 16),)), b"4 2 2 1\n0 policy 0 0\ndomain 0 0 0 0 0 0\n"
+            run = replace(run_of(trace, listed, stream + block({0: (3, fill)})), own=own)
+            ending = compare(run, run, 0).endings[-1]
+            self.assertEqual((ending.name, ending.seen), ("own replacement data", (said, said)))

@@ -158,6 +158,35 @@ class Words(unittest.TestCase):
         ):
             self.assertEqual(words.step(step), said)
 
+    def test_geometry(self):
+        for rule, said in ((0, "rule 0 (Tree-PLRU)"), (1, "rule 1 (NRU)"), (2, "rule 2 (true LRU)"), (3, "rule 3")):
+            self.assertEqual(words.geometry(Trace(1, 4, rule, ())), f"1 set, 4 ways, {said}")
+        self.assertIn("rule 0 (tree), 1 (nru) or 2 (lru).", words.refusal(1))
+
+    def test_orders(self):
+        for word, ways, said in (
+            (0x2013, [0, 1, 2, 3], "oldest first 2 0 1 3"),
+            (0x0123, [0, 1, 2, 3], "oldest first 0 1 2 3"),
+            (0x10, [0, 1], "oldest first 1 0"),
+            (0xFEDC_BA98_7654_3210, list(range(16)), "oldest first 15 14 13 12 11 10 9 8 7 6 5 4 3 2 1 0"),
+            (0x2F7, [2, 7, 15], "oldest first 2 15 7"),
+            (0x9, [9], "oldest first 9"),
+            (0, [], "none"),
+        ):
+            self.assertEqual(words.order(word, ways), said)
+
+    def test_words_that_are_no_order(self):
+        for word, ways in (
+            (0, [0, 1, 2, 3]),
+            (0x3211, [0, 1, 2, 3]),
+            (0x4210, [0, 1, 2, 3]),
+            (0x1_0123, [0, 1, 2, 3]),
+            (0x0123, [0, 1, 2]),
+            (0x12, [1, 3]),
+            (1, []),
+        ):
+            self.assertIsNone(words.order(word, ways), word)
+
     def test_lines(self):
         row = Row(0b0011, 0b0010, 0, (5, 6, 7, 0))
         said = [words.line(row, way) for way in range(4)]

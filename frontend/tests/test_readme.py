@@ -5,6 +5,7 @@ import re
 import unittest
 
 from frontend import __main__ as entry
+from frontend import tracefile
 from frontend.programs import ROOT
 from frontend.tests import case_a
 
@@ -28,6 +29,10 @@ class Readme(unittest.TestCase):
 
     def test_the_worked_example(self):
         self.assertIn("".join(f"    {line}\n" for line in case_a.LISTING.decode().splitlines()), README)
+
+    def test_every_rule_is_named(self):
+        for name in tracefile.RULES.values():
+            self.assertIn(f"`{name}`", README)
 
     def test_document_01_is_told_once(self):
         self.assertEqual(README.count("\n## Document 01\n"), 1)

@@ -241,7 +241,7 @@ class Texts(InFolder):
 
     def test_no_file_within_the_limits_is_text(self):
         for sets in (1 << power for power in range(9)):
-            for rule in (0, 1):
+            for rule in (0, 1, 2):
                 for steps in ((), (Step(0x20, 0x20, 0x2020_2020_2020_2020),) * 4096):
                     self.assertFalse(source.is_text(tracefile.encode(Trace(sets, 8, rule, steps))))
 

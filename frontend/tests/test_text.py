@@ -8,7 +8,7 @@ import unittest
 from frontend import maps, numbers, text, tracefile
 from frontend.assembler import assemble
 from frontend.programs import ROOT
-from frontend.tests import case_a
+from frontend.tests import case_a, true_lru
 from frontend.tests.helpers import random_bytes, random_trace
 from frontend.tracefile import Step, Trace
 
@@ -50,7 +50,7 @@ class RoundTrip(unittest.TestCase):
         self.there_and_back(tracefile.encode(Trace(256, 16, 1, (Step(15, 2, 1 << 63),) * 4096)))
 
     def test_geometries(self):
-        for sets, ways, rule in ((0, 0, 0), (65535, 255, 255), (3, 5, 2)):
+        for sets, ways, rule in ((0, 0, 0), (65535, 255, 255), (3, 5, 2), (1, 4, 3)):
             self.there_and_back(tracefile.encode(Trace(sets, ways, rule, ())))
 
 
@@ -61,13 +61,18 @@ class Forms(unittest.TestCase):
         source = (ROOT / "examples" / "case-a.txt").read_bytes()
         self.assertEqual(tracefile.encode(assemble("case-a.txt", source)), case_a.FILE)
 
+    def test_true_lru(self):
+        source = (ROOT / "examples" / "true-lru.txt").read_bytes()
+        self.assertEqual(tracefile.encode(assemble("true-lru.txt", source)), true_lru.FILE)
+
     def test_canonical_text(self):
         shown = text.show(tracefile.decode(case_a.FILE))
         expected = "0 policy hit=0,1 fill=0,1\n1 policy hit=2,3 fill=2,3\n0 store 0x0\n0 load 0x40\n"
         self.assertTrue(shown.startswith("sets 1\nways 4\nrule tree\n\n" + expected), shown)
 
     def test_canonical_text_without_steps(self):
-        self.assertEqual(text.show(Trace(2, 8, 9, ())), "sets 2\nways 8\nrule 9\n")
+        for rule, name in ((0, "tree"), (1, "nru"), (2, "lru"), (3, "3"), (9, "9")):
+            self.assertEqual(text.show(Trace(2, 8, rule, ())), f"sets 2\nways 8\nrule {name}\n")
 
     def test_raw_forms_are_shown_where_needed(self):
         steps = (Step(7, 9, 0x123), Step(0, 16, 0x1_0000_0003), Step(200, 0, 1 << 63))
@@ -95,7 +100,7 @@ class Forms(unittest.TestCase):
             self.assertEqual(steps_of(f"1 policy {written}\n"), (Step(1, 16, argument),), written)
 
     def test_rules(self):
-        for name, number in (("tree", 0), ("tree-plru", 0), ("nru", 1), ("0", 0), ("0x2", 2), ("255", 255)):
+        for name, number in (("tree", 0), ("tree-plru", 0), ("nru", 1), ("lru", 2), ("0", 0), ("0x2", 2), ("255", 255)):
             trace = assemble("case.txt", f"rule {name}\nways 2\nsets 8\n".encode())
             self.assertEqual(trace, Trace(8, 2, number, ()))
 
@@ -120,6 +125,18 @@ class Parts(unittest.TestCase):
             self.assertIsNone(numbers.parse(written), written)
         self.assertGreater(numbers.parse("9" * 10_000), 1 << 64)
         self.assertEqual(numbers.parse("0" * 10_000 + "5"), 5)
+
+    def test_hexadecimal(self):
+        for number, digits, written in (
+            (0, 1, "0x0"),
+            (0x1_0000, 1, "0x1_0000"),
+            (0x1, 2, "0x01"),
+            (0x132, 4, "0x0132"),
+            (0x123_4567, 8, "0x0123_4567"),
+            (0x123_4567_89AB_CDEF, 16, "0x0123_4567_89ab_cdef"),
+            (0x1_0123, 4, "0x1_0123"),
+        ):
+            self.assertEqual(numbers.hexadecimal(number, digits), written)
 
     def test_maps(self):
         for word in range(1 << 16):

@@ -9,15 +9,15 @@ import tempfile
 import unittest
 from pathlib import Path
 
-from frontend import helptext, listing, programs, run, stepper, struck, tracefile
-from frontend.tests import case_a
+from frontend import helptext, listing, programs, run, stepper, struck, tracefile, words
+from frontend.tests import case_a, true_lru
 from frontend.tests.helpers import call, needs_programs, random_trace, start
 from frontend.tracefile import Step, Trace
 
 EXAMPLES = sorted((programs.ROOT / "examples").glob("*.txt"))
 
 
-def busy_trace(source: random.Random, count: int) -> Trace:
+def busy_trace(source: random.Random, count: int, rules: tuple[int, ...] = (0, 1, 2)) -> Trace:
     """Make a trace within the limits whose steps are mostly accepted."""
     ways, domains, tops = source.choice((2, 4, 8, 16)), (0, 1, 15), (63, 255, 1023)
     steps = []
@@ -27,7 +27,7 @@ def busy_trace(source: random.Random, count: int) -> Trace:
         kind = source.choice((0, 1, 1, 2, 2, 3, 16))
         address = source.randint(0, source.choice(tops)) * 64
         steps.append(Step(source.choice(domains), kind, argument if kind == 16 else address))
-    return Trace(source.choice((1, 2, 4, 256)), ways, source.choice((0, 1)), tuple(steps))
+    return Trace(source.choice((1, 2, 4, 256)), ways, source.choice(rules), tuple(steps))
 
 
 def said(data: bytes, name: str, *arguments: str) -> bytes:
@@ -62,6 +62,8 @@ class CaseA(unittest.TestCase):
             (Trace(256, 2, 0, ()), b"256 2 0 0\n"),
             (Trace(257, 2, 0, ()), b"refused 1\n"),
             (Trace(512, 2, 0, ()), b"refused 1\n"),
+            (Trace(1, 2, 2, ()), b"1 2 2 0\n"),
+            (Trace(1, 2, 3, ()), b"refused 1\n"),
             (Trace(1, 2, 0, (Step(15, 1, 0),)), b"1 2 0 1\n0 refused 6\n"),
             (Trace(1, 2, 0, (Step(16, 1, 0),)), b"1 2 0 1\n0 refused 3\n"),
             (Trace(1, 2, 0, many), b"1 2 0 4096\n0 refused 6\n"),
@@ -69,6 +71,48 @@ class CaseA(unittest.TestCase):
         ):
             status, out, _ = call("list", stdin=tracefile.encode(trace))
             self.assertEqual((status, out[: len(first)]), (2 if first.startswith(b"refused") else 0, first))
+
+
+@needs_programs
+class TrueLru(unittest.TestCase):
+    """The example of true LRU, in both runs, and words that are orders."""
+
+    EXAMPLE = str(programs.ROOT / "examples" / "true-lru.txt")
+
+    def test_whole_run(self):
+        self.assertEqual(call("list", self.EXAMPLE), (0, true_lru.LISTING, ""))
+        self.assertEqual(programs.stepper(true_lru.FILE), true_lru.STREAM)
+
+    def test_struck_out_run(self):
+        trace = tracefile.decode(true_lru.FILE)
+        kept = struck.kept(trace, 0, programs.purger(true_lru.FILE, 0))
+        self.assertEqual(len(kept.steps), len(trace.steps) - len(true_lru.STRUCK_PLACES))
+        data = tracefile.encode(kept)
+        self.assertEqual((programs.lister(data), programs.stepper(data)), (true_lru.STRUCK_LISTING, true_lru.STRUCK_STREAM))
+
+    def test_isolate(self):
+        for domain, order in (("0", "oldest first 2 0 1"), ("1", "oldest first 3"), ("2", "none")):
+            status, out, _ = call("isolate", self.EXAMPLE, domain)
+            self.assertEqual(status, 0, out)
+            self.assertRegex(out.decode(), f"\n +own replacement data +{order} +{order}\n")
+
+    def test_explain(self):
+        status, out, _ = call("explain", self.EXAMPLE)
+        self.assertEqual(status, 0)
+        self.assertIn("0x0123 (oldest first 0 1 2 3)  0x3012 (oldest first 3 0 1 2)", out.decode())
+
+    def test_no_node_is_shared(self):
+        steps = Step(0, 16, 0x0005_0005), Step(1, 16, 0x000A_000A)  # case F's maps
+        answers = listing.parse(programs.lister(tracefile.encode(Trace(1, 8, 2, steps)))).answers
+        self.assertEqual([str(answer) for answer in answers], ["policy 0 0"] * 2)
+
+    def test_every_word_is_an_order(self):
+        source = random.Random(12)
+        for _ in range(12):
+            trace = busy_trace(source, 100, (2,))
+            rows = [row for taken in stepper.parse(programs.stepper(tracefile.encode(trace)), trace) for row in taken.rows.values()]
+            for row in rows:
+                self.assertIsNotNone(words.order(row.word, list(range(trace.ways))), row)
 
 
 @needs_programs
@@ -130,11 +174,28 @@ class Bare(unittest.TestCase):
 class OwnParts(unittest.TestCase):
     """The own part of replacement words, by the proved call."""
 
+    def parts(self, ways: int, rule: int, word: int, *fill_maps: int, sets: int = 1) -> bytes:
+        entries = tuple(Step(fill & 0xFF, fill >> 8, word) for fill in fill_maps)
+        return programs.parts(tracefile.encode(Trace(sets, ways, rule, entries)))
+
     def test_free_nodes_and_nru_bits(self):
-        words = tuple(Step(map_ & 0xFF, map_ >> 8, (1 << 64) - 1) for map_ in (12, 5, 255, 1, 0, 256))
-        self.assertEqual(programs.parts(tracefile.encode(Trace(1, 8, 0, words))), b"16\n2\n127\n0\n0\nrefused 5\n")
-        self.assertEqual(programs.parts(tracefile.encode(Trace(1, 8, 1, words))), b"12\n5\n255\n1\n0\nrefused 5\n")
-        self.assertEqual(programs.parts(tracefile.encode(Trace(3, 8, 1, words))), b"refused 1\n")
+        ones, fill_maps = (1 << 64) - 1, (12, 5, 255, 1, 0, 256)
+        self.assertEqual(self.parts(8, 0, ones, *fill_maps), b"16\n2\n127\n0\n0\nrefused 5\n")
+        self.assertEqual(self.parts(8, 1, ones, *fill_maps), b"12\n5\n255\n1\n0\nrefused 5\n")
+        self.assertEqual(self.parts(8, 1, ones, *fill_maps, sets=3), b"refused 1\n")
+
+    def test_orders_of_fill_ways(self):
+        fill_maps = 7, 8, 10, 15, 0, 16
+        for word, orders in (
+            (0x2031, (0x201, 0x3, 0x31, 0x2031, 0)),
+            (0x2301, (0x201, 0x3, 0x31, 0x2301, 0)),
+            (0x0123, (0x012, 0x3, 0x13, 0x0123, 0)),
+            (0, (0x012, 0x3, 0x13, 0x0123, 0)),  # no order, so read as the fresh one
+        ):
+            said = "".join(f"{order}\n" for order in orders) + "refused 5\n"
+            self.assertEqual(self.parts(4, 2, word, *fill_maps), said.encode(), hex(word))
+        for word in true_lru.WORDS:
+            self.assertEqual(self.parts(4, 2, word, 7), true_lru.OWN)
 
 
 @needs_programs
