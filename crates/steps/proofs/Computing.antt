@@ -5,6 +5,7 @@ use Rattle.waymap.specs.Bits.{bit, word, any, lowest, count, put, reaches}
 use Rattle.waymap.specs.Ways.{isWays}
 use Rattle.tree.specs.Tree as Tree
 use Rattle.nru.specs.Nru as Nru
+use Rattle.lru.specs.Lru as Lru
 use Rattle.replacement.specs.Calls.{inLimits}
 use Rattle.lookup.specs.Lookup as Lookup
 use Rattle.row.specs.Row as Row
@@ -27,7 +28,8 @@ unfolding answersOf finally step decided stepBy changePolicy useLine rowEffect o
     badArgument setOf tagOf isPower within sized inLimits isWays Lookup.matches Lookup.isHit Lookup.hitWay Row.hitAt Row.filled Row.vacant Row.fillAt
     Row.evictAt Row.accessBy Row.access Row.flushAt Row.flush Clean.moved Clean.without Clean.wiped Clean.dropped Clean.droppedDirty Clean.cleaned
     Tree.passes Tree.under Tree.holds Tree.free Tree.forcedRight Tree.walk Tree.walked Tree.victim Tree.touch Tree.changes Tree.reset Tree.shares
-    Nru.victim Nru.before Nru.touch Nru.changes Nru.reset Nru.fresh bit word any lowest count put reaches xor
+    Nru.victim Nru.before Nru.touch Nru.changes Nru.reset Nru.fresh Lru.places Lru.wordOf Lru.times Lru.malformed Lru.fresh Lru.order Lru.written
+    Lru.kept Lru.joined Lru.touched Lru.touch Lru.last Lru.victim Lru.changes Lru.aged Lru.reset Lru.before Lru.own bit word any lowest count put reaches xor
 computing = tt
 
 -- A step, and the argument of a policy with both maps m.

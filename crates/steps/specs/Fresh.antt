@@ -1,4 +1,5 @@
--- A fresh cache: "all zero, except that under NRU the low W bits of each replacement word are one. All policies and counts are zero."
+-- A fresh cache: "all zero, except that under NRU the low W bits of each replacement word are one", and under true LRU "place k holds way
+-- W − 1 − k". "All policies and counts are zero."
 use Prim.Native.Nat.{_*_}
 use lib.ListN.{replicate}
 use Rattle.replacement.specs.Rule.{ruleOf}
