@@ -16,7 +16,7 @@ use Rattle.isolation.proofs.Isolation.{isolation}
 use Rattle.demand.specs.Demand.{Limits, fresh, events, end, struckOut, seen, seenIn, WellFormed, Demand}
 use Rattle.demand.proofs.LimitLaws.{ways-sized, within-limits, fresh-is}
 use Rattle.demand.proofs.RunLaws.{struck-is, end-is, own-is, verdictIn, verdicts-are}
-use Rattle.demand.proofs.SeenLaws.{domain-same, lines-same, bits-same, is-well-formed}
+use Rattle.demand.proofs.SeenLaws.{domain-same, lines-same, bits-same, pairs-same, is-well-formed}
 
 module _ (g : Geometry) (l : Limits g) (d : ℕ) where
   limits : within g ≡ true
@@ -49,6 +49,7 @@ module _ (g : Geometry) (l : Limits g) (d : ℕ) where
           domain = domain-same g limits d a b (run-kept g limits cs) (claim .finally-same) i;
           lines = lines-same g limits d a b (run-kept g limits cs) (claim .finally-same) i;
           bits = bits-same g limits d a b (run-kept g limits cs) (claim .finally-same) (ways-sized g l) (l .rule-known) i;
+          pairs = pairs-same g limits d a b (run-kept g limits cs) (claim .finally-same) i;
         }
 
     seen-same : seenIn g d cs ≡ seenIn g d (struckOut d cs)

@@ -21,7 +21,9 @@ use Rattle.geometry.specs.Geometry.{isPower, within}
 use Rattle.geometry.specs.declared.Geometry.{Geometry}
 use Rattle.geometry.proofs.GeometryLaws.{limited}
 use Rattle.steps.specs.Fresh as Fresh
+use Rattle.demand.specs.Order.{freshWord}
 use Rattle.demand.specs.Demand.{Limits, fresh}
+use Rattle.demand.proofs.OrderLaws.{fresh-word}
 
 -- ---- the limits, both ways
 
@@ -52,7 +54,7 @@ within-limits g l =
       power,
       le-leb (g .sets) 256 (omega (arith, l .sets-most)),
       ways-are g l,
-      lt-ltb (g .rule) 2 (omega (arith, l .rule-known)),
+      lt-ltb (g .rule) 3 (omega (arith, l .rule-known)),
     )
   where
     power : any 64 (λ (k : ℕ). eqb (g .sets) (2 ^ k)) ≡ true
@@ -65,7 +67,7 @@ pub limits-within : (g : Geometry) → within g ≡ true → Limits g
 unfolding within isPower inLimits
 limits-within g e =
     let power = any-found 64 (λ (k : ℕ). eqb (g .sets) (2 ^ k)) (and-left (isPower (g .sets)) (leb (g .sets) 256) front) in
-    let ways = NumberLaws.sized (g .ways) (and-left (isWays (g .ways)) (ltb (g .rule) 2) rest) in
+    let ways = NumberLaws.sized (g .ways) (and-left (isWays (g .ways)) (ltb (g .rule) 3) rest) in
     record {
       sets-log = power .0;
       sets-power = eqb-true (g .sets) (2 ^ power .0) (power .2);
@@ -74,7 +76,7 @@ limits-within g e =
       ways-power = ways .power;
       ways-least = ways .least;
       ways-most = ways .most;
-      rule-known = ltb-true (g .rule) 2 (and-right (isWays (g .ways)) (ltb (g .rule) 2) rest);
+      rule-known = ltb-true (g .rule) 3 (and-right (isWays (g .ways)) (ltb (g .rule) 3) rest);
     }
   where
     front : (isPower (g .sets) && leb (g .sets) 256) ≡ true
@@ -85,15 +87,16 @@ limits-within g e =
 
 -- ---- a fresh cache
 
-fresh-word : (rule W : ℕ) → rule < 2 → W ≤ 16 → cond (eqb rule 1) (2 ^ W - 1) 0 ≡ ruleOf rule W .fresh
+word-is : (rule W : ℕ) → rule < 3 → W ≤ 16 → cond (eqb rule 1) (2 ^ W - 1) (cond (eqb rule 2) (freshWord W) 0) ≡ ruleOf rule W .fresh
 unfolding Nru.fresh
-fresh-word zero W h k = refl
-fresh-word (suc zero) W h k =
+word-is zero W h k = refl
+word-is (suc zero) W h k =
     let low : W < 64 = omega arith in
     let room : 2 ^ W < 2 ^ 64 = pow-lt low in
     from-bits 64 (omega (arith, room)) (λ i j. bit-ones W i)
-fresh-word (suc (suc r)) W h k = absurd (omega arith)
+word-is (suc (suc zero)) W h k = fresh-word W
+word-is (suc (suc (suc r))) W h k = absurd (omega arith)
 
 pub fresh-is : (g : Geometry) → Limits g → fresh g ≡ Fresh.fresh g
 unfolding fresh Fresh.fresh Fresh.freshTables Fresh.freshDomains
-fresh-is g l = rw (fresh-word (g .rule) (g .ways) (omega (arith, l .rule-known)) (omega (arith, l .ways-most)))
+fresh-is g l = rw (word-is (g .rule) (g .ways) (omega (arith, l .rule-known)) (omega (arith, l .ways-most)))

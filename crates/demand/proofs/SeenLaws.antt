@@ -1,17 +1,17 @@
 -- What the chosen domain sees at the end is what the theorem `isolation` compares.
-use mathlib.Core.Path.{_≡_, refl, sym, ap, ap₂, _∙_}
-use mathlib.Core.Bool.{true, cond}
+use mathlib.Core.Path.{_≡_, refl, sym, ap, ap₂, subst, _∙_}
+use mathlib.Core.Bool.{Bool, true, cond, _&&_, true≢false}
 use mathlib.Core.List.{List, [], _∷_}
 use Prim.Native.Nat.{ℕ, zero, suc, _+_, _*_, _<_}
 use native.Mathlib.Omega.{arith}
-use lib.Dec.{eqb}
+use lib.Dec.{eqb, ltb}
 use lib.ListN.{getD, drop}
 use lib.Seq.{getD-drop, getD-take}
 use borrow.Author.Tests.{eq-eqb, eqb-true, lt-ltb}
 use Rattle.waymap.specs.Bits.{bit}
 use Rattle.waymap.specs.Bits as Bits
 use Rattle.waymap.specs.Ways.{Sized}
-use Rattle.waymap.proofs.Booleans.{cases}
+use Rattle.waymap.proofs.Booleans.{cases, and-left, and-right}
 use Rattle.waymap.proofs.BitLaws.{digit-at}
 use Rattle.replacement.specs.Rule.{ruleOf, bit64}
 use Rattle.replacement.specs.Isolates.{SameOwn}
@@ -26,8 +26,10 @@ use Rattle.steps.proofs.RunLaws.{Kept}
 use Rattle.isolation.specs.StruckOut.{SameTo}
 use Rattle.isolation.proofs.LineUnwinding.{policy-cut}
 use Rattle.demand.specs.Free.{digit, isFree}
-use Rattle.demand.specs.Demand.{domainAt, each, lines, isOwn, bits, WellFormed}
+use Rattle.demand.specs.Order.{placeOf}
+use Rattle.demand.specs.Demand.{domainAt, each, lines, isOwn, bits, isPair, pairs, WellFormed}
 use Rattle.demand.proofs.FreeLaws.{free-is}
+use Rattle.demand.proofs.OrderLaws.{before-is}
 
 -- ---- numbers, lists and bits
 
@@ -52,8 +54,8 @@ tag-at W s w t h = getD-take W (drop (s * W) (t .tags)) w 0 h ∙ getD-drop (s *
 
 -- ---- own replacement bits
 
-own-digit : (rule W : ℕ) → rule < 2 → Sized W → (fill x y i : ℕ) → i < W → SameOwn (ruleOf rule W) fill x y
-    → cond (eqb rule 1) (eqb (digit fill i) 1) (isFree W fill i) ≡ true → digit x i ≡ digit y i
+own-digit : (rule W : ℕ) → rule < 3 → Sized W → (fill x y i : ℕ) → i < W → SameOwn (ruleOf rule W) fill x y
+    → cond (eqb rule 1) (eqb (digit fill i) 1) (eqb rule 0 && isFree W fill i) ≡ true → digit x i ≡ digit y i
 unfolding bit64
 own-digit zero W h z fill x y i k same e =
     let seen = same i (sym (free-is W z fill i) ∙ e) in
@@ -61,7 +63,18 @@ own-digit zero W h z fill x y i k same e =
 own-digit (suc zero) W h z fill x y i k same e =
     let seen = same i (sym (one-bit fill i) ∙ e) in
     same-digit x y i (rw (lt-ltb i 64 (omega (arith, z .most))) at seen)
-own-digit (suc (suc r)) W h z fill x y i k same e = absurd (omega arith)
+own-digit (suc (suc zero)) W h z fill x y i k same e = absurd (true≢false (sym e))
+own-digit (suc (suc (suc r))) W h z fill x y i k same e = absurd (omega arith)
+
+-- ---- the relative order of fill ways
+
+own-pair : (rule W fill x y v w : ℕ) → v < W → w < W → SameOwn (ruleOf rule W) fill x y
+    → (eqb rule 2 && (eqb (digit fill v) 1 && eqb (digit fill w) 1)) ≡ true
+    → ltb (placeOf W x v) (placeOf W x w) ≡ ltb (placeOf W y v) (placeOf W y w)
+own-pair rule W fill x y v w h k same e =
+    let two : rule ≡ 2 = eqb-true rule 2 (and-left (eqb rule 2) (eqb (digit fill v) 1 && eqb (digit fill w) 1) e) in
+    let both = ap₂ _&&_ (sym (one-bit fill v)) (sym (one-bit fill w)) ∙ and-right (eqb rule 2) (eqb (digit fill v) 1 && eqb (digit fill w) 1) e in
+    before-is W x v w h k ∙ subst (λ (r : ℕ). SameOwn (ruleOf r W) fill x y) two same (v, w) both ∙ sym (before-is W y v w h k)
 
 -- ---- two ends
 
@@ -98,20 +111,37 @@ module _ (g : Geometry) (limits : within g ≡ true) (d : ℕ) where
         each-ext (g .ways) _ _ (λ w k.
         cases (eqb (digit (domainAt d a .hit) w) 1) (λ t. rw t (line-same s w h k t)) (λ t. rw t))))
 
-    bit-same : Sized (g .ways) → g .rule < 2 → (s i : ℕ) → s < g .sets → i < g .ways → isOwn g (domainAt d a .fill) i ≡ true
+    bit-same : Sized (g .ways) → g .rule < 3 → (s i : ℕ) → s < g .sets → i < g .ways → isOwn g (domainAt d a .fill) i ≡ true
         → digit (getD (a .tables .words) s 0) i ≡ digit (getD (b .tables .words) s 0) i
     unfolding rowAt isOwn
     bit-same z r s i h k e =
         own-digit (g .rule) (g .ways) r z (domainAt d a .fill) (getD (a .tables .words) s 0) (getD (b .tables .words) s 0) i k
         (rw (stored a kept) at (same .sets s h .own)) e
 
-    pub bits-same : Sized (g .ways) → g .rule < 2 → bits g d a ≡ bits g d b
+    pub bits-same : Sized (g .ways) → g .rule < 3 → bits g d a ≡ bits g d b
     unfolding bits
     bits-same z r =
         rw (← domain-same)
         (each-ext (g .sets) _ _ (λ s h.
         each-ext (g .ways) _ _ (λ i k.
         cases (isOwn g (domainAt d a .fill) i) (λ t. rw t (ap (λ (n : ℕ). n ∷ []) (bit-same z r s i h k t))) (λ t. rw t))))
+
+    pair-same : (s v w : ℕ) → s < g .sets → v < g .ways → w < g .ways → isPair g (domainAt d a .fill) v w ≡ true
+        → ltb (placeOf (g .ways) (getD (a .tables .words) s 0) v) (placeOf (g .ways) (getD (a .tables .words) s 0) w)
+        ≡ ltb (placeOf (g .ways) (getD (b .tables .words) s 0) v) (placeOf (g .ways) (getD (b .tables .words) s 0) w)
+    unfolding rowAt isPair
+    pair-same s v w h k l e =
+        own-pair (g .rule) (g .ways) (domainAt d a .fill) (getD (a .tables .words) s 0) (getD (b .tables .words) s 0) v w k l
+        (rw (stored a kept) at (same .sets s h .own)) e
+
+    pub pairs-same : pairs g d a ≡ pairs g d b
+    unfolding pairs
+    pairs-same =
+        rw (← domain-same)
+        (each-ext (g .sets) _ _ (λ s h.
+        each-ext (g .ways) _ _ (λ v k.
+        each-ext (g .ways) _ _ (λ w l.
+        cases (isPair g (domainAt d a .fill) v w) (λ t. rw t (ap (λ (b : Bool). b ∷ []) (pair-same s v w h k l t))) (λ t. rw t)))))
 
   -- ---- what is compared is there
 

@@ -1,13 +1,15 @@
 -- What is seen, computed in full for two runs: every part of the statement is in use, and two lists can be told apart.
 use mathlib.Core.Path.{_≡_, refl, sym, ap, _∙_}
+use mathlib.Core.Bool.{true, false}
 use mathlib.Core.List.{List, [], _∷_}
 use Prim.Native.Nat.{ℕ}
 use native.Mathlib.Omega.{arith}
-use lib.ListN.{length}
+use lib.ListN.{length, replicate}
 use Rattle.command.specs.Command.{Command}
 use Rattle.geometry.specs.declared.Geometry.{Geometry}
 use Rattle.steps.proofs.Computing.{computing, does, both}
 use Rattle.demand.specs.Free.{digit, someIn, freeFrom, isFree}
+use Rattle.demand.specs.Order.{freshWord, wayAt, howMany, firstOf, isOrder, placeOf}
 use Rattle.demand.specs.Demand.{
   fresh,
   events,
@@ -23,6 +25,8 @@ use Rattle.demand.specs.Demand.{
   lines,
   isOwn,
   bits,
+  isPair,
+  pairs,
   Seen,
   seen,
   seenIn,
@@ -49,6 +53,7 @@ seenByZero = record {
   domain = record { hit = 5; fill = 5; counts = record { hits = 0; misses = 4; evicted = 1; written = 1; flushed = 1 } };
   lines = ((0 ∷ 0 ∷ 2 ∷ []) ∷ [] ∷ (1 ∷ 0 ∷ 1 ∷ []) ∷ [] ∷ []) ∷ ((1 ∷ 0 ∷ 0 ∷ []) ∷ [] ∷ (0 ∷ 0 ∷ 0 ∷ []) ∷ [] ∷ []) ∷ [];
   bits = ((1 ∷ []) ∷ [] ∷ [] ∷ [] ∷ []) ∷ ((1 ∷ []) ∷ [] ∷ [] ∷ [] ∷ []) ∷ [];
+  pairs = replicate 2 (replicate 4 (replicate 4 []));
 }
 
 -- ---- one set of two ways under NRU: domain 0 gets way 0 and stores to line 0
@@ -66,13 +71,47 @@ seenBriefly = record {
   domain = record { hit = 1; fill = 1; counts = record { hits = 0; misses = 1; evicted = 0; written = 0; flushed = 0 } };
   lines = ((1 ∷ 1 ∷ 0 ∷ []) ∷ [] ∷ []) ∷ [];
   bits = ((0 ∷ []) ∷ [] ∷ []) ∷ [];
+  pairs = replicate 1 (replicate 2 (replicate 2 []));
 }
+
+-- ---- one set of four ways under true LRU: domain 0 gets ways 0 and 2, domain 1 gets ways 1 and 3, and both use them in turn
+
+abbrev lru : Geometry
+lru = record { sets = 1; ways = 4; rule = 2 }
+
+abbrev turns : List Command
+turns =
+    does 0 16 (both 5) ∷ does 1 16 (both 10) ∷ does 0 1 0 ∷ does 1 1 0 ∷ does 0 1 64 ∷ does 1 1 64 ∷ does 0 1 0 ∷ does 1 1 0 ∷ []
+
+-- Domain 0 sees that its way 0 stands before its way 2, and no other pair.
+abbrev seenInTurn : Seen
+seenInTurn = record {
+  answers = (6 ∷ 0 ∷ 0 ∷ []) ∷ (1 ∷ 0 ∷ []) ∷ (1 ∷ 2 ∷ []) ∷ (0 ∷ 0 ∷ []) ∷ [];
+  verdicts = accepted ∷ [];
+  domain = record { hit = 5; fill = 5; counts = record { hits = 1; misses = 2; evicted = 0; written = 0; flushed = 0 } };
+  lines = ((1 ∷ 0 ∷ 0 ∷ []) ∷ [] ∷ (1 ∷ 0 ∷ 1 ∷ []) ∷ [] ∷ []) ∷ [];
+  bits = replicate 1 (replicate 4 []);
+  pairs =
+      (
+      ((false ∷ []) ∷ [] ∷ (true ∷ []) ∷ [] ∷ []) ∷ replicate 4 [] ∷ ((false ∷ []) ∷ [] ∷ (false ∷ []) ∷ [] ∷ []) ∷ replicate 4 [] ∷ []
+      ) ∷ [];
+}
+
+-- The words at the end, of the whole run and of the struck-out one: domain 1's touches change the order, and not that of ways 0 and 2.
+abbrev wordsAfter : List Command → List ℕ
+wordsAfter cs = end lru cs (fresh lru) .tables .words
 
 -- ---- computed
 
 pub computed : (seenIn tree 0 steps ≡ seenByZero) × (seenIn nru 0 brief ≡ seenBriefly) × (length (struckOut 0 steps) ≡ 9)
-unfolding seenIn seen bits isOwn lines each domainAt verdicts verdictOf ownAnswers struckOut end events fresh isFree freeFrom someIn digit computing
+unfolding seenIn seen bits isOwn pairs isPair lines each domainAt verdicts verdictOf ownAnswers struckOut end events fresh isFree freeFrom someIn digit
+    isOrder placeOf wayAt howMany firstOf freshWord computing
 computed = (refl, refl, refl)
+
+pub computed-order : (seenIn lru 0 turns ≡ seenInTurn) × (wordsAfter turns ≡ 0x2301 ∷ []) × (wordsAfter (struckOut 0 turns) ≡ 0x1320 ∷ [])
+unfolding seenIn seen bits isOwn pairs isPair lines each domainAt verdicts verdictOf ownAnswers struckOut end events fresh isFree freeFrom someIn digit
+    isOrder placeOf wayAt howMany firstOf freshWord computing
+computed-order = (refl, refl, refl)
 
 -- A list can be told from another: here from one without any of the domain's own steps.
 pub told-apart : Indistinguishable tree 0 steps [] → ⊥

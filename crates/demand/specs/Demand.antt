@@ -11,10 +11,11 @@ use Rattle.geometry.specs.declared.Geometry.{Geometry}
 use Rattle.domains.specs.declared.Domain.{Domain}
 use Rattle.steps.specs.Step.{State, step}
 use Rattle.demand.specs.Free.{digit, isFree}
+use Rattle.demand.specs.Order.{freshWord, placeOf}
 
 -- ---- Geometry, and a fresh cache
 
--- "Sets S: a power of two, 1 to 256. Ways W: 2, 4, 8 or 16. Rule: 0 Tree-PLRU, 1 NRU."
+-- "Sets S: a power of two, 1 to 256. Ways W: 2, 4, 8 or 16. Rule: 0 Tree-PLRU, 1 NRU", and true LRU is rule 2.
 pub record Limits (g : Geometry) : Type 0 where
   pub sets-log : ℕ
   pub sets-power : g .sets ≡ 2 ^ sets-log
@@ -23,20 +24,21 @@ pub record Limits (g : Geometry) : Type 0 where
   pub ways-power : g .ways ≡ 2 ^ ways-log
   pub ways-least : 2 ≤ g .ways
   pub ways-most : g .ways ≤ 16
-  pub rule-known : g .rule < 2
+  pub rule-known : g .rule < 3
 
 -- A domain without ways and counts.
 abbrev pub emptyDomain : Domain
 emptyDomain = record { hit = 0; fill = 0; counts = record { hits = 0; misses = 0; evicted = 0; written = 0; flushed = 0 } }
 
--- "Fresh: all zero, except that under NRU the low W bits of each replacement word are one. All policies and counts are zero."
+-- "Fresh: all zero, except that under NRU the low W bits of each replacement word are one", and under true LRU "place k holds way W − 1 − k".
+-- "All policies and counts are zero."
 unfoldable pub fresh : Geometry → State
 fresh g = record {
   tables = record {
     tags = replicate (g .sets * g .ways) 0;
     valid = replicate (g .sets) 0;
     dirty = replicate (g .sets) 0;
-    words = replicate (g .sets) (cond (eqb (g .rule) 1) (2 ^ g .ways - 1) 0);
+    words = replicate (g .sets) (cond (eqb (g .rule) 1) (2 ^ g .ways - 1) (cond (eqb (g .rule) 2) (freshWord (g .ways)) 0));
   };
   domains = record { records = replicate 16 emptyDomain };
 }
@@ -106,14 +108,26 @@ lines g d s =
     cond (eqb (digit (domainAt d s .hit) w) 1)
     (digit (getD (s .tables .valid) set 0) w ∷ digit (getD (s .tables .dirty) set 0) w ∷ getD (s .tables .tags) (set * g .ways + w) 0 ∷ []) []))
 
--- "A domain's own replacement bits are its free nodes, or the NRU bits of its fill map." Node i is bit i.
+-- "A domain's own replacement bits are its free nodes, or the NRU bits of its fill map." Node i is bit i. Under true LRU no bit is anybody's.
 unfoldable pub isOwn : Geometry → ℕ → ℕ → Bool
-isOwn g fill i = cond (eqb (g .rule) 1) (eqb (digit fill i) 1) (isFree (g .ways) fill i)
+isOwn g fill i = cond (eqb (g .rule) 1) (eqb (digit fill i) 1) (eqb (g .rule) 0 && isFree (g .ways) fill i)
 
 -- "and its own replacement bits", in every set. Nothing for another bit.
 unfoldable pub bits : Geometry → ℕ → State → List (List (List ℕ))
 bits g d s =
     each (g .sets) (λ set. each (g .ways) (λ i. cond (isOwn g (domainAt d s .fill) i) (digit (getD (s .tables .words) set 0) i ∷ []) []))
+
+-- Under true LRU "a domain's own replacement data is the relative order of its fill ways": of each two ways of its fill map, whether the first stands
+-- before the second.
+unfoldable pub isPair : Geometry → ℕ → ℕ → ℕ → Bool
+isPair g fill v w = eqb (g .rule) 2 && (eqb (digit fill v) 1 && eqb (digit fill w) 1)
+
+-- In every set, for each way and each other. Nothing for another pair.
+unfoldable pub pairs : Geometry → ℕ → State → List (List (List (List Bool)))
+pairs g d s =
+    each (g .sets) (λ set. each (g .ways) (λ v. each (g .ways) (λ w.
+    let x = getD (s .tables .words) set 0 in
+    cond (isPair g (domainAt d s .fill) v w) (ltb (placeOf (g .ways) x v) (placeOf (g .ways) x w) ∷ []) [])))
 
 -- All that is equal in both runs.
 pub record Seen : Type 0 where
@@ -122,9 +136,17 @@ pub record Seen : Type 0 where
   pub domain : Domain
   pub lines : List (List (List ℕ))
   pub bits : List (List (List ℕ))
+  pub pairs : List (List (List (List Bool)))
 
 unfoldable pub seen : Geometry → ℕ → List Event → State → Seen
-seen g d es s = record { answers = ownAnswers d es; verdicts = verdicts d es; domain = domainAt d s; lines = lines g d s; bits = bits g d s }
+seen g d es s = record {
+  answers = ownAnswers d es;
+  verdicts = verdicts d es;
+  domain = domainAt d s;
+  lines = lines g d s;
+  bits = bits g d s;
+  pairs = pairs g d s;
+}
 
 -- What the chosen domain is told and sees in the run of a list from a fresh cache.
 unfoldable pub seenIn : Geometry → ℕ → List Command → Seen
