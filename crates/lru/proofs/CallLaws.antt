@@ -22,6 +22,7 @@ use Rattle.lru.specs.Calls.{victimOf, touchOf, changeOf, resetOf, ownOf}
 use Rattle.lru.proofs.OrderLaws.{eqb-sym, times-append, Below, below-head, below-tail, below-kept, Each, each-below, each-long, fresh-each, joined-each}
 use Rattle.lru.proofs.BeforeLaws.{not-first}
 use Rattle.lru.proofs.LruLaws.{aged-each}
+use Rattle.lru.proofs.FallingLaws.{kept-wider}
 use Rattle.lru.proofs.PlaceLaws.{places-below, places-word, word-lt, order-each, each-sixteen}
 
 -- ---- parts of orders
@@ -108,25 +109,24 @@ module _ (W x : ℕ) (small : W ≤ 16) where
       each : Each W (joined (eqb w) (order W x) (order W x))
       each = joined-each W (eqb w) (order W x) (order W x) (order-each W x) (order-each W x)
 
-  pub aged-word : (moves : Bits)
-      → ahead (kept (others moves) (places W (wordOf (order W x)))) (ahead (kept moves (places W (wordOf (fresh W)))) 0)
-      ≡ wordOf (aged W moves (order W x))
+  pub aged-word : (moves : Bits) → ((w : ℕ) → W ≤ w → moves w ≡ false)
+      → ahead (kept (others moves) (places W (wordOf (order W x)))) (ahead (kept moves (fresh 16)) 0) ≡ wordOf (aged W moves (order W x))
   unfolding aged joined
-  aged-word moves =
-      ap₂ (λ (o q : Order). ahead (kept (others moves) o) (ahead (kept moves q) 0)) read fresh-read
+  aged-word moves none =
+      ap₂ (λ (o q : Order). ahead (kept (others moves) o) (ahead q 0)) read fewer
       ∙ ap (λ (n : ℕ). ahead (kept (others moves) (order W x)) n)
-      (ap (λ (o : Order). ahead o 0) again ∙ alone-word (kept (others (others moves)) (fresh W)) back (omega (arith, short, each-long W (fresh W) (fresh-each W))))
+      (alone-word (kept (others (others moves)) (fresh W)) back (omega (arith, short, each-long W (fresh W) (fresh-each W))))
       ∙ ahead-word (kept (others moves) (order W x)) (kept (others (others moves)) (fresh W)) (low (others moves)) back
       (omega (arith, each-long W (joined (others moves) (order W x) (fresh W)) (aged-each W moves x)))
     where
       sixteen : Below 16 (fresh W)
       sixteen = each-sixteen W small (fresh W) (fresh-each W)
 
-      fresh-read : places W (wordOf (fresh W)) ≡ fresh W
-      fresh-read = places-word W (fresh W) sixteen (each-long W (fresh W) (fresh-each W))
-
-      again : kept moves (fresh W) ≡ kept (others (others moves)) (fresh W)
-      again = kept-ext 16 (fresh W) sixteen (λ w h. cases (moves w) (λ t. rw t) (λ t. rw t))
+      fewer : kept moves (fresh 16) ≡ kept (others (others moves)) (fresh W)
+      fewer =
+          let all : 16 ≡ 16 - W + W = omega arith in
+          ap (λ (n : ℕ). kept moves (fresh n)) all ∙ kept-wider moves W (16 - W) none
+          ∙ kept-ext 16 (fresh W) sixteen (λ w h. cases (moves w) (λ t. rw t) (λ t. rw t))
 
       back : Below 16 (kept (others (others moves)) (fresh W))
       back = below-kept 16 (others (others moves)) (fresh W) sixteen
@@ -187,17 +187,16 @@ module _ (W x map : ℕ) (t : takes W map ≡ true) where
       next : n ≡ wordOf (touched (bit map) w (order W x))
       next = f ∙ ap (λ (k : ℕ). ahead (w ∷ kept (others (eqb w)) (places W k)) 0) is ∙ touched-word W x small (bit map) w e (way-lt W map w t h e)
 
-  pub reset-given : {r n y : ℕ} → r ≡ wordOf (order W x)
-      → n ≡ ahead (kept (others (bit map)) (places W r)) (ahead (kept (bit map) (places W (wordOf (fresh W)))) 0)
-      → y ≡ cond (eqb n r) x n → y ≡ resetOf W x map
+  pub reset-given : {r n y : ℕ} → map < 2 ^ 16 → r ≡ wordOf (order W x)
+      → n ≡ ahead (kept (others (bit map)) (places W r)) (ahead (kept (bit map) (fresh 16)) 0) → y ≡ cond (eqb n r) x n → y ≡ resetOf W x map
   unfolding resetOf written
-  reset-given {r} {n} is f g =
+  reset-given {r} {n} h is f g =
       rw t (g ∙ ap₂ (λ (a b : ℕ). cond (eqb a b) x a) next is)
     where
       next : n ≡ wordOf (aged W (bit map) (order W x))
       next =
-          f ∙ ap (λ (k : ℕ). ahead (kept (others (bit map)) (places W k)) (ahead (kept (bit map) (places W (wordOf (fresh W)))) 0)) is
-          ∙ aged-word W x small (bit map)
+          f ∙ ap (λ (k : ℕ). ahead (kept (others (bit map)) (places W k)) (ahead (kept (bit map) (fresh 16)) 0)) is
+          ∙ aged-word W x small (bit map) (λ w k. WordLaws.bit-high W map w (NumberLaws.takes-below W map t h) k)
 
 -- ---- the two calls together are the rule's change of fill map
 

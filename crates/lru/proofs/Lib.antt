@@ -4,5 +4,6 @@ pub mod PlaceLaws
 pub mod BeforeLaws
 pub mod LruLaws
 pub mod LoopLaws
+pub mod FallingLaws
 pub mod CallLaws
 pub mod WorkedCases

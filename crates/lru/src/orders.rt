@@ -97,13 +97,25 @@ pub fn touched(ways: usize, order: u64, way: usize) -> u64
     (put_ahead(ways, !waymap::only(way), order, 0) << 4) + (way as u64)
 }
 
+// The ways of a map, the highest the most recent.
+fn falling(map: u16) -> u64
+    ensures { λ r. ⌜ r ≡ ahead (kept (bit map) (freshOrder 16)) 0 ⌝ }
+{
+    let mut left = map;
+    let mut out: u64 = 0;
+    while left != 0 {
+        out = (out << 4) + (waymap::lowest_way(left) as u64);
+        left = left & (left - 1);
+    }
+    out
+}
+
 // The order with the ways of the map moved to the old end.
 pub fn aged(ways: usize, order: u64, moves: u16) -> u64
     requires { ⌜ Sized ways ⌝ }
-    ensures { λ r.
-        ⌜ r ≡ ahead (kept (others (bit moves)) (places ways order)) (ahead (kept (bit moves) (places ways (wordOf (freshOrder ways)))) 0) ⌝ }
+    ensures { λ r. ⌜ r ≡ ahead (kept (others (bit moves)) (places ways order)) (ahead (kept (bit moves) (freshOrder 16)) 0) ⌝ }
 {
-    put_ahead(ways, !moves, order, put_ahead(ways, moves, fresh(ways), 0))
+    put_ahead(ways, !moves, order, falling(moves))
 }
 
 // The word with an order written over it: where that is the order it is read as, the word stays.

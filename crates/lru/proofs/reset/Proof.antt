@@ -34,7 +34,8 @@ written-requires c κs = tt
 
 returns-2 : tie.Need-returns-2
 returns-2 c =
-    reset-given _ _ _ (taken (c .before .before .before)) (c .before .before .read .ensures) (c .before .aged .ensures) (c .written .ensures)
+    let t = c .before .before .before in
+    reset-given _ _ _ (taken t) (entry t .fits .moves .fits) (c .before .before .read .ensures) (c .before .aged .ensures) (c .written .ensures)
 
 pub reset-spec : {M : Type 1} → statement M
 reset-spec = tie.close (tie.spec takes-requires returns read-requires aged-requires written-requires returns-2)
