@@ -1,7 +1,7 @@
 -- The worked cases in one list. First cases B to I of document 01 and step 5 of its case A: what the rules give, and what document 01
--- prints. Then our own cases on lent states: what the rules give, and what was worked out by hand.
+-- prints. Then those of document 02's job 1, and our own cases on lent states: what the rules give, and what was worked out by hand.
 use mathlib.Core.Bool.{Bool, cond}
-use mathlib.Core.List.{List, [], _∷_, map}
+use mathlib.Core.List.{List, [], _∷_, _++_, map}
 use Prim.Native.Nat.{ℕ, _+_, _*_}
 use lib.ListN.{getD}
 use Rattle.waymap.specs.Bits.{bit, word}
@@ -12,6 +12,7 @@ use Rattle.command.specs.Command.{Command}
 use Rattle.steps.specs.Run.{answersOf}
 use Rattle.steps.specs.Fresh.{fresh}
 use Rattle.cases.specs.Case.{Case}
+use Rattle.cases.specs.Orders.{orders}
 use Rattle.cases.specs.Lent.{lent}
 
 -- A bit as a number.
@@ -61,5 +62,5 @@ cases u =
     ∷ record { given = freeNodes 1 ∷ []; printed = 0 ∷ [] }
     -- I: "NRU, map 6, word 0: victim way 1; after its touch bits 1 and 2 are 0 and 1"
     ∷ record { given = nru 8 .victim 6 0 ∷ nru 8 .touch 6 1 (nru 8 .before 6 0) ∷ []; printed = 1 ∷ 4 ∷ [] }
-    -- and our own
-    ∷ lent
+    -- job 1's, and our own
+    ∷ (orders ++ lent)

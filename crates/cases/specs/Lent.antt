@@ -1,6 +1,6 @@
 -- Cases on lent states. They are ours and not document 01's: a step on tables, policies and counts as they are written here, with the
--- answer and the state after it, both worked out by hand from document 01. Where a sentence of it says what a case shows, the comment
--- quotes it. The whole state is compared, so that a case also says what does not move.
+-- answer and the state after it, both worked out by hand from document 01, and under true LRU from document 02's job 1. Where a sentence of
+-- them says what a case shows, the comment quotes it. The whole state is compared, so that a case also says what does not move.
 use mathlib.Core.List.{List, [], _∷_, _++_}
 use Prim.Native.Nat.{ℕ, _+_, _-_, _*_}
 use lib.ListN.{length, replicate}
@@ -15,12 +15,15 @@ use Rattle.cases.specs.Case.{Case}
 
 -- ---- Caches, steps and answers
 
--- S sets of W ways, under Tree-PLRU and under NRU.
+-- S sets of W ways, under Tree-PLRU, under NRU and under true LRU.
 abbrev plru : ℕ → ℕ → Geometry
 plru S W = record { sets = S; ways = W; rule = 0 }
 
 abbrev nru : ℕ → ℕ → Geometry
 nru S W = record { sets = S; ways = W; rule = 1 }
+
+abbrev lru : ℕ → ℕ → Geometry
+lru S W = record { sets = S; ways = W; rule = 2 }
 
 -- A domain fetches, loads, stores or flushes at an address, or takes a hit map and a fill map.
 abbrev fetches : ℕ → ℕ → Command
@@ -236,6 +239,10 @@ freshStates =
     ∷ begins (plru 1 16) (row (replicate 16 0) 0 0 0 [])
     -- Tree-PLRU, 2 ways
     ∷ begins (plru 2 2) (state (replicate 4 0) (0 ∷ 0 ∷ []) (0 ∷ 0 ∷ []) (0 ∷ 0 ∷ []) [])
+    -- job 1: "Fresh, place k holds way W − 1 − k": true LRU, 16 ways
+    ∷ begins (lru 1 16) (row (replicate 16 0) 0 0 0x0123456789abcdef [])
+    -- true LRU, 2 ways: way 1 in place 0 and way 0 in place 1 of each word
+    ∷ begins (lru 2 2) (state (replicate 4 0) (0 ∷ 0 ∷ []) (0 ∷ 0 ∷ []) (0x01 ∷ 0x01 ∷ []) [])
     ∷ []
 
 abbrev accesses : List Case
@@ -506,5 +513,216 @@ storedMaps =
     (row (0 ∷ 0 ∷ 0 ∷ 8 ∷ []) 8 8 4 (domain 0 0 0 0 0 0 0 ∷ domain 6 6 1 2 3 4 5 ∷ []))
     ∷ []
 
+-- ---- True LRU: document 02, job 1. In a word the last digit is place 0: 0x2301 is the order 1, 0, 3, 2, way 1 the most recent.
+
+-- "Touching a way of the fill map brings it to place 0; touching another moves nothing."
+abbrev orderHits : List Case
+orderHits =
+    -- the order 1, 0, 3, 2: a hit in way 2 makes it 2, 1, 0, 3
+    after (lru 1 4) (loads 0 (line 7))
+    (row (5 ∷ 6 ∷ 7 ∷ 8 ∷ []) 15 2 0x2301 (domain 15 15 1 2 3 4 5 ∷ []))
+    (hit 2)
+    (row (5 ∷ 6 ∷ 7 ∷ 8 ∷ []) 15 2 0x3012 (domain 15 15 2 2 3 4 5 ∷ []))
+    -- a hit in its most recent way leaves it; the store marks the way dirty
+    ∷ after (lru 1 4) (stores 0 (line 6))
+    (row (5 ∷ 6 ∷ 7 ∷ 8 ∷ []) 15 0 0x2301 (domain 15 15 1 2 3 4 5 ∷ []))
+    (hit 1)
+    (row (5 ∷ 6 ∷ 7 ∷ 8 ∷ []) 15 2 0x2301 (domain 15 15 2 2 3 4 5 ∷ []))
+    -- "to place 0": past the ways 2 and 3 of another domain, in the order 2, 3, 1, 0
+    ∷ after (lru 1 4) (loads 0 (line 5))
+    (row (5 ∷ 6 ∷ 7 ∷ 8 ∷ []) 15 0 0x0132 (domain 3 3 1 2 3 4 5 ∷ domain 12 12 1 2 3 4 5 ∷ []))
+    (hit 0)
+    (row (5 ∷ 6 ∷ 7 ∷ 8 ∷ []) 15 0 0x1320 (domain 3 3 2 2 3 4 5 ∷ domain 12 12 1 2 3 4 5 ∷ []))
+    -- "touching another": way 2 is in the hit map alone
+    ∷ after (lru 1 4) (loads 0 (line 7))
+    (row (5 ∷ 6 ∷ 7 ∷ 8 ∷ []) 15 0 0x2301 (domain 15 3 1 2 3 4 5 ∷ []))
+    (hit 2)
+    (row (5 ∷ 6 ∷ 7 ∷ 8 ∷ []) 15 0 0x2301 (domain 15 3 2 2 3 4 5 ∷ []))
+    -- "read as fresh": word 0 and way 1, which comes before 3, 2 and 0
+    ∷ after (lru 1 4) (loads 0 (line 6))
+    (row (5 ∷ 6 ∷ 7 ∷ 8 ∷ []) 15 0 0 (domain 15 15 1 2 3 4 5 ∷ []))
+    (hit 1)
+    (row (5 ∷ 6 ∷ 7 ∷ 8 ∷ []) 15 0 0x0231 (domain 15 15 2 2 3 4 5 ∷ []))
+    -- "A step, or a call of the rules alone, after which the order is as read leaves the word untouched": word 0 and way 3
+    ∷ after (lru 1 4) (loads 0 (line 8))
+    (row (5 ∷ 6 ∷ 7 ∷ 8 ∷ []) 15 0 0 (domain 15 15 1 2 3 4 5 ∷ []))
+    (hit 3)
+    (row (5 ∷ 6 ∷ 7 ∷ 8 ∷ []) 15 0 0 (domain 15 15 2 2 3 4 5 ∷ []))
+    -- 0x2210 holds way 2 twice: a hit in way 3 leaves it
+    ∷ after (lru 1 4) (loads 0 (line 8))
+    (row (5 ∷ 6 ∷ 7 ∷ 8 ∷ []) 15 0 0x2210 (domain 15 15 1 2 3 4 5 ∷ []))
+    (hit 3)
+    (row (5 ∷ 6 ∷ 7 ∷ 8 ∷ []) 15 0 0x2210 (domain 15 15 2 2 3 4 5 ∷ []))
+    -- and a hit in way 0, which stands at its place 0, does not
+    ∷ after (lru 1 4) (loads 0 (line 5))
+    (row (5 ∷ 6 ∷ 7 ∷ 8 ∷ []) 15 0 0x2210 (domain 15 15 1 2 3 4 5 ∷ []))
+    (hit 0)
+    (row (5 ∷ 6 ∷ 7 ∷ 8 ∷ []) 15 0 0x1230 (domain 15 15 2 2 3 4 5 ∷ []))
+    -- a word of all ones: a hit outside the fill map leaves it
+    ∷ after (lru 1 4) (loads 0 (line 6))
+    (row (5 ∷ 6 ∷ 7 ∷ 8 ∷ []) 15 0 0xffffffffffffffff (domain 15 12 1 2 3 4 5 ∷ []))
+    (hit 1)
+    (row (5 ∷ 6 ∷ 7 ∷ 8 ∷ []) 15 0 0xffffffffffffffff (domain 15 12 2 2 3 4 5 ∷ []))
+    -- "places W and above are zero": and a hit in way 2 of the fill map writes it whole
+    ∷ after (lru 1 4) (loads 0 (line 7))
+    (row (5 ∷ 6 ∷ 7 ∷ 8 ∷ []) 15 0 0xffffffffffffffff (domain 15 12 1 2 3 4 5 ∷ []))
+    (hit 2)
+    (row (5 ∷ 6 ∷ 7 ∷ 8 ∷ []) 15 0 0x0132 (domain 15 12 2 2 3 4 5 ∷ []))
+    -- two sets: line 3 is in set 1, has tag 1 and hits way 0; the word of set 0, which is malformed, stays
+    ∷ after (lru 2 2) (loads 0 (line 3))
+    (state (8 ∷ 1 ∷ 1 ∷ 11 ∷ []) (3 ∷ 3 ∷ []) (0 ∷ 0 ∷ []) (0x11 ∷ 0x01 ∷ []) (domain 3 3 1 2 3 4 5 ∷ []))
+    (hit 0)
+    (state (8 ∷ 1 ∷ 1 ∷ 11 ∷ []) (3 ∷ 3 ∷ []) (0 ∷ 0 ∷ []) (0x11 ∷ 0x10 ∷ []) (domain 3 3 2 2 3 4 5 ∷ []))
+    ∷ []
+
+-- "The victim is the fill map's way nearest the old end." Fills, evictions, and the steps that touch nothing.
+abbrev orderMisses : List Case
+orderMisses =
+    -- the invalid way 0 is filled, though way 2 is nearest the old end of the order 1, 0, 3, 2
+    after (lru 1 4) (stores 0 (line 9))
+    (row (5 ∷ 6 ∷ 7 ∷ 8 ∷ []) 14 0 0x2301 (domain 15 15 1 2 3 4 5 ∷ []))
+    (fill 0)
+    (row (9 ∷ 6 ∷ 7 ∷ 8 ∷ []) 15 1 0x2310 (domain 15 15 1 3 3 4 5 ∷ []))
+    -- word 0: way 2 is filled
+    ∷ after (lru 1 4) (loads 0 (line 9))
+    (row (5 ∷ 6 ∷ 7 ∷ 8 ∷ []) 11 0 0 (domain 15 15 1 2 3 4 5 ∷ []))
+    (fill 2)
+    (row (5 ∷ 6 ∷ 9 ∷ 8 ∷ []) 15 0 0x0132 (domain 15 15 1 3 3 4 5 ∷ []))
+    -- the order is as read: way 3 is filled, of a word that holds way 2 twice
+    ∷ after (lru 1 4) (loads 0 (line 9))
+    (row (5 ∷ 6 ∷ 7 ∷ 8 ∷ []) 7 0 0x2210 (domain 15 15 1 2 3 4 5 ∷ []))
+    (fill 3)
+    (row (5 ∷ 6 ∷ 7 ∷ 9 ∷ []) 15 0 0x2210 (domain 15 15 1 3 3 4 5 ∷ []))
+    -- all ones: way 1 is filled
+    ∷ after (lru 1 4) (loads 0 (line 9))
+    (row (5 ∷ 6 ∷ 7 ∷ 8 ∷ []) 13 0 0xffffffffffffffff (domain 15 15 1 2 3 4 5 ∷ []))
+    (fill 1)
+    (row (5 ∷ 9 ∷ 7 ∷ 8 ∷ []) 15 0 0x0231 (domain 15 15 1 3 3 4 5 ∷ []))
+    -- the order 1, 0, 3, 2: way 2 is evicted
+    ∷ after (lru 1 4) (loads 0 (line 9))
+    (row (5 ∷ 6 ∷ 7 ∷ 8 ∷ []) 15 4 0x2301 (domain 15 15 1 2 3 4 5 ∷ []))
+    (evict 2 7 1)
+    (row (5 ∷ 6 ∷ 9 ∷ 8 ∷ []) 15 0 0x3012 (domain 15 15 1 3 4 5 5 ∷ []))
+    -- "the fill map's way": of ways 0 and 1 way 0, and it comes to place 0 past the others
+    ∷ after (lru 1 4) (loads 0 (line 9))
+    (row (5 ∷ 6 ∷ 7 ∷ 8 ∷ []) 15 4 0x2301 (domain 15 3 1 2 3 4 5 ∷ []))
+    (evict 0 5 0)
+    (row (9 ∷ 6 ∷ 7 ∷ 8 ∷ []) 15 4 0x2310 (domain 15 3 1 3 4 4 5 ∷ []))
+    -- word 0: way 0 is evicted, and of ways 2 and 3 way 2
+    ∷ after (lru 1 4) (stores 0 (line 9))
+    (row (5 ∷ 6 ∷ 7 ∷ 8 ∷ []) 15 0 0 (domain 15 15 1 2 3 4 5 ∷ []))
+    (evict 0 5 0)
+    (row (9 ∷ 6 ∷ 7 ∷ 8 ∷ []) 15 1 0x1230 (domain 15 15 1 3 4 4 5 ∷ []))
+    ∷ after (lru 1 4) (stores 0 (line 9))
+    (row (5 ∷ 6 ∷ 7 ∷ 8 ∷ []) 15 0 0 (domain 12 12 1 2 3 4 5 ∷ []))
+    (evict 2 7 0)
+    (row (5 ∷ 6 ∷ 9 ∷ 8 ∷ []) 15 4 0x0132 (domain 12 12 1 3 4 4 5 ∷ []))
+    -- a word that holds way 2 twice, at the old end: way 0 is evicted
+    ∷ after (lru 1 4) (loads 0 (line 9))
+    (row (5 ∷ 6 ∷ 7 ∷ 8 ∷ []) 15 0 0x2210 (domain 15 15 1 2 3 4 5 ∷ []))
+    (evict 0 5 0)
+    (row (9 ∷ 6 ∷ 7 ∷ 8 ∷ []) 15 0 0x1230 (domain 15 15 1 3 4 4 5 ∷ []))
+    -- the order is as read: way 3 is the one way of the map, and the word, of all ones, stays
+    ∷ after (lru 1 4) (loads 0 (line 9))
+    (row (5 ∷ 6 ∷ 7 ∷ 8 ∷ []) 15 0 0xffffffffffffffff (domain 8 8 1 2 3 4 5 ∷ []))
+    (evict 3 8 0)
+    (row (5 ∷ 6 ∷ 7 ∷ 9 ∷ []) 15 0 0xffffffffffffffff (domain 8 8 1 3 4 4 5 ∷ []))
+    -- sixteen ways, and all ones: way 0 is evicted
+    ∷ after (lru 1 16) (loads 0 (line 9))
+    (row (replicate 16 5) 65535 0 0xffffffffffffffff (domain 65535 65535 1 2 3 4 5 ∷ []))
+    (evict 0 5 0)
+    (row (9 ∷ replicate 15 5) 65535 0 0x123456789abcdef0 (domain 65535 65535 1 3 4 4 5 ∷ []))
+    -- "With an empty fill map it passes": the word stays
+    ∷ after (lru 1 4) (loads 0 (line 9))
+    (row (5 ∷ 6 ∷ 7 ∷ 8 ∷ []) 15 0 0x2210 (domain 15 0 1 2 3 4 5 ∷ []))
+    pass
+    (row (5 ∷ 6 ∷ 7 ∷ 8 ∷ []) 15 0 0x2210 (domain 15 0 1 3 3 4 5 ∷ []))
+    -- a flush leaves "all replacement bits": an order, and a word that is none
+    ∷ after (lru 1 4) (flushes 0 (line 7))
+    (row (5 ∷ 6 ∷ 7 ∷ 8 ∷ []) 15 4 0x2301 (domain 15 15 1 2 3 4 5 ∷ []))
+    (flush 2 1)
+    (row (5 ∷ 6 ∷ 7 ∷ 8 ∷ []) 11 0 0x2301 (domain 15 15 1 2 3 5 6 ∷ []))
+    ∷ after (lru 1 4) (flushes 0 (line 5))
+    (row (5 ∷ 6 ∷ 7 ∷ 8 ∷ []) 15 4 0x2210 (domain 15 15 1 2 3 4 5 ∷ []))
+    (flush 0 0)
+    (row (5 ∷ 6 ∷ 7 ∷ 8 ∷ []) 14 4 0x2210 (domain 15 15 1 2 3 4 6 ∷ []))
+    ∷ []
+
+-- "A policy change moves the ways in exactly one of the old and new fill maps to the old end, the lowest of them oldest, and leaves the rest in
+-- their order."
+abbrev orderChanges : List Case
+orderChanges =
+    -- the order 1, 3, 2, 0: way 1 is given up and comes to the old end
+    after (lru 1 4) (takes 0 1 1)
+    (row (5 ∷ 6 ∷ 7 ∷ 8 ∷ []) 15 2 0x0231 (domain 3 3 1 2 3 4 5 ∷ []))
+    (policy 1 1)
+    (row (5 ∷ 0 ∷ 7 ∷ 8 ∷ []) 13 0 0x1023 (domain 1 1 1 2 3 4 5 ∷ []))
+    -- the order 2, 1, 0, 3: ways 1 and 2 are gained, and way 1 becomes the oldest
+    ∷ after (lru 1 4) (takes 0 7 7)
+    (row (5 ∷ 6 ∷ 7 ∷ 8 ∷ []) 15 0 0x3012 (domain 1 1 1 2 3 4 5 ∷ []))
+    (policy 2 0)
+    (row (5 ∷ 0 ∷ 0 ∷ 8 ∷ []) 9 0 0x1230 (domain 7 7 1 2 3 4 5 ∷ []))
+    -- "fill maps": the hit map stays, way 0 leaves the fill map and way 2 enters it, of the order 0, 2, 1, 3
+    ∷ after (lru 1 4) (takes 0 15 6)
+    (row (5 ∷ 6 ∷ 7 ∷ 8 ∷ []) 15 15 0x3120 (domain 15 3 1 2 3 4 5 ∷ []))
+    (policy 0 0)
+    (row (5 ∷ 6 ∷ 7 ∷ 8 ∷ []) 15 15 0x0231 (domain 15 6 1 2 3 4 5 ∷ []))
+    -- a removal: ways 2 and 3 of the order 2, 3, 1, 0
+    ∷ after (lru 1 4) (takes 0 0 0)
+    (row (5 ∷ 6 ∷ 7 ∷ 8 ∷ []) 15 1 0x0132 (domain 12 12 1 2 3 4 5 ∷ []))
+    (policy 2 0)
+    (row (5 ∷ 6 ∷ 0 ∷ 0 ∷ []) 3 1 0x2301 (domain 0 0 0 0 0 0 0 ∷ []))
+    -- a neighbour's change: domain 1 takes ways 2 and 3, and the ways 0 and 1 of domain 0 keep their order, in 3, 0, 2, 1
+    ∷ after (lru 1 4) (takes 1 12 12)
+    (row (5 ∷ 6 ∷ 7 ∷ 8 ∷ []) 15 0 0x1203 (domain 3 3 1 2 3 4 5 ∷ []))
+    (policy 2 0)
+    (row (5 ∷ 6 ∷ 0 ∷ 0 ∷ []) 3 0 0x2310 (domain 3 3 1 2 3 4 5 ∷ domain 12 12 0 0 0 0 0 ∷ []))
+    -- also where the word is read as fresh, and with it way 1 as more recent than way 0: ways 2 and 3 are given up
+    ∷ after (lru 1 4) (takes 1 0 0)
+    (row (5 ∷ 6 ∷ 7 ∷ 8 ∷ []) 15 0 0x2210 (domain 3 3 1 2 3 4 5 ∷ domain 12 12 1 2 3 4 5 ∷ []))
+    (policy 2 0)
+    (row (5 ∷ 6 ∷ 0 ∷ 0 ∷ []) 3 0 0x2301 (domain 3 3 1 2 3 4 5 ∷ domain 0 0 0 0 0 0 0 ∷ []))
+    -- "9: policy under Tree-PLRU": fill maps 5 and 10 stand side by side here; ways 1 and 3 move
+    ∷ after (lru 1 4) (takes 0 10 10)
+    (row (5 ∷ 6 ∷ 7 ∷ 8 ∷ []) 15 8 0x0123 (domain 0 0 1 2 3 4 5 ∷ domain 5 5 1 2 3 4 5 ∷ []))
+    (policy 2 1)
+    (row (5 ∷ 0 ∷ 7 ∷ 0 ∷ []) 5 0 0x1302 (domain 10 10 1 2 3 4 5 ∷ domain 5 5 1 2 3 4 5 ∷ []))
+    -- the fill map stays: words that are read as fresh stay, of all ones, zero, and with a way twice
+    ∷ after (lru 1 4) (takes 0 7 1)
+    (row (5 ∷ 6 ∷ 7 ∷ 8 ∷ []) 15 0 0xffffffffffffffff (domain 3 1 1 2 3 4 5 ∷ []))
+    (policy 1 0)
+    (row (5 ∷ 6 ∷ 0 ∷ 8 ∷ []) 11 0 0xffffffffffffffff (domain 7 1 1 2 3 4 5 ∷ []))
+    ∷ after (lru 2 2) (takes 0 3 1)
+    (state (5 ∷ 6 ∷ 7 ∷ 8 ∷ []) (3 ∷ 2 ∷ []) (2 ∷ 0 ∷ []) (0 ∷ 0x11 ∷ []) (domain 1 1 1 2 3 4 5 ∷ []))
+    (policy 2 1)
+    (state (5 ∷ 0 ∷ 7 ∷ 0 ∷ []) (1 ∷ 0 ∷ []) (0 ∷ 0 ∷ []) (0 ∷ 0x11 ∷ []) (domain 3 1 1 2 3 4 5 ∷ []))
+    -- set by set: way 0 is gained. Set 0's word holds way 2 twice; read as fresh it has way 0 at the old end, so that it stays. Set 1's order is
+    -- 0, 1, 2, 3, and becomes 1, 2, 3, 0.
+    ∷ after (lru 2 4) (takes 0 1 1)
+    (state (5 ∷ 6 ∷ 7 ∷ 8 ∷ 9 ∷ 10 ∷ 11 ∷ 12 ∷ []) (15 ∷ 14 ∷ []) (1 ∷ 0 ∷ []) (0x2210 ∷ 0x3210 ∷ []) (domain 0 0 1 2 3 4 5 ∷ []))
+    (policy 1 1)
+    (state (0 ∷ 6 ∷ 7 ∷ 8 ∷ 0 ∷ 10 ∷ 11 ∷ 12 ∷ []) (14 ∷ 14 ∷ []) (0 ∷ 0 ∷ []) (0x2210 ∷ 0x0321 ∷ []) (domain 1 1 1 2 3 4 5 ∷ []))
+    -- way 3 is gained: here the order of set 1 is as read, and it is set 0's word that is written
+    ∷ after (lru 2 4) (takes 0 8 8)
+    (state (5 ∷ 6 ∷ 7 ∷ 8 ∷ 9 ∷ 10 ∷ 11 ∷ 12 ∷ []) (15 ∷ 14 ∷ []) (1 ∷ 0 ∷ []) (0x2210 ∷ 0x3210 ∷ []) (domain 0 0 1 2 3 4 5 ∷ []))
+    (policy 2 0)
+    (state (5 ∷ 6 ∷ 7 ∷ 0 ∷ 9 ∷ 10 ∷ 11 ∷ 0 ∷ []) (7 ∷ 6 ∷ []) (1 ∷ 0 ∷ []) (0x3012 ∷ 0x3210 ∷ []) (domain 8 8 1 2 3 4 5 ∷ []))
+    ∷ []
+
+-- "New numbers: none; 1 now admits rule 2."
+abbrev ruleNumbers : List Case
+ruleNumbers =
+    -- rule 2 stands, 3 is refused 1
+    after (record { sets = 1; ways = 2; rule = 2 }) (loads 0 (line 5))
+    (row (5 ∷ 6 ∷ []) 3 0 0x01 (domain 3 3 1 2 3 4 5 ∷ []))
+    (hit 0)
+    (row (5 ∷ 6 ∷ []) 3 0 0x10 (domain 3 3 2 2 3 4 5 ∷ []))
+    ∷ still (record { sets = 1; ways = 2; rule = 3 }) (loads 0 (line 5)) (row (5 ∷ 6 ∷ []) 3 0 0x01 (domain 3 3 1 2 3 4 5 ∷ [])) (refused 1)
+    ∷ []
+
+-- Those of the base's two rules, and all.
+abbrev ofBase : List Case
+ofBase = places ++ (sizes ++ (fullCounts ++ (freshStates ++ (accesses ++ (lineFlushes ++ (cleanings ++ (resets ++ (highBits ++ storedMaps))))))))
+
 unfoldable pub lent : List Case
-lent = places ++ (sizes ++ (fullCounts ++ (freshStates ++ (accesses ++ (lineFlushes ++ (cleanings ++ (resets ++ (highBits ++ storedMaps))))))))
+lent = ofBase ++ (orderHits ++ (orderMisses ++ (orderChanges ++ ruleNumbers)))

@@ -1,5 +1,6 @@
-// Cases A, J, K and L of document 01, and the file on standard input, which is one byte longer than the longest, listed by the public
-// call. Cases B to I are shown of the rules themselves, in proofs/Worked.antt.
+// Cases A, J, K and L of document 01, runs under true LRU, which document 02's job 1 makes rule 2, and the file on standard input, which is
+// one byte longer than the longest, listed by the public call. Cases B to I and those of job 1 are shown of the rules themselves, in
+// proofs/Worked.antt.
 use libc::STDOUT_FILENO;
 ghost use Rattle.io.specs.Counts.{Counts};
 
@@ -112,6 +113,20 @@ fn case_l() {
     show(&file, false);
 }
 
+// 1 set, 4 ways, 7 steps: domain 0 takes all ways, loads lines 0 to 3, line 0 again, and line 4. Under rule 2 that evicts line 1, which was
+// used longest ago; Tree-PLRU evicts line 2 and NRU line 0. Rule 2 stands, 3 is refused 1.
+fn true_lru() {
+    show(
+        b"\x01\0\x04\x02\x07\0\0\0\
+          \0\x10\0\x01\0\x01\0\x01\0\x01\0\x01\0\x01\
+          \x0f\0\x0f\0\0\0\0\0\0\0\0\0\0\0\0\0\x40\0\0\0\0\0\0\0\
+          \x80\0\0\0\0\0\0\0\xc0\0\0\0\0\0\0\0\0\0\0\0\0\0\0\0\
+          \0\x01\0\0\0\0\0\0",
+        true,
+    );
+    show(&[1u8, 0, 4, 3, 0, 0, 0, 0], true);
+}
+
 // A file of 4,096 steps, and one byte more.
 fn longer() {
     let mut file = [0u8; 40969];
@@ -129,6 +144,8 @@ fn main() {
     case_k();
     io::write_all(STDOUT_FILENO, b"case L\n");
     case_l();
+    io::write_all(STDOUT_FILENO, b"true LRU\n");
+    true_lru();
     io::write_all(STDOUT_FILENO, b"one byte more than the longest\n");
     longer();
 }

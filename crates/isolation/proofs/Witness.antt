@@ -1,9 +1,11 @@
--- The theorem is neither empty nor slack: one list of steps, computed in both runs.
+-- The theorem is neither empty nor slack: lists of steps, computed in both runs.
 use mathlib.Core.Path.{_≡_, refl}
 use mathlib.Core.Bool.{true, false}
 use mathlib.Core.List.{List, [], _∷_}
+use Prim.Native.Nat.{ℕ}
 use lib.ListN.{length}
 use Rattle.waymap.specs.Bits.{bit, word}
+use Rattle.replacement.specs.Rule.{lru}
 use Rattle.domains.specs.Domains.{domainOf, policies}
 use Rattle.geometry.specs.declared.Geometry.{Geometry}
 use Rattle.steps.specs.Tables.{rowAt}
@@ -66,6 +68,36 @@ record OtherDrops : Type 0 where
   run : answersOf small shrink (fresh small) ≡ (6 ∷ 0 ∷ 0 ∷ []) ∷ (1 ∷ 2 ∷ []) ∷ (6 ∷ 1 ∷ 1 ∷ []) ∷ []
   purged : answersOf small (purge 0 shrink) (fresh small) ≡ (6 ∷ 0 ∷ 0 ∷ []) ∷ (6 ∷ 0 ∷ 0 ∷ []) ∷ []
 
+-- ---- true LRU: a neighbour's touches change the whole order, and no pair of the domain's own ways
+
+-- one set of four ways under true LRU
+abbrev ordered : Geometry
+ordered = record { sets = 1; ways = 4; rule = 2 }
+
+-- Domain 0 gets ways 0 and 1, and domain 1 ways 2 and 3; each stores to line 0 and loads lines 1 and 2, in turn; then domain 1 loads line 1 again.
+abbrev turns : List Command
+turns =
+    does 0 16 (both 3) ∷ does 1 16 (both 12) ∷ does 0 2 0 ∷ does 1 2 0 ∷ does 0 1 64 ∷ does 1 1 64 ∷ does 0 1 128 ∷ does 1 1 128 ∷ does 1 1 64 ∷ []
+
+-- the two runs' words at the end
+abbrev wholeWord : ℕ
+wholeWord = rowAt 4 0 (finally ordered turns (fresh ordered) .tables) .word
+
+abbrev struckWord : ℕ
+struckWord = rowAt 4 0 (finally ordered (purge 0 turns) (fresh ordered) .tables) .word
+
+-- The order is 3, 2, 0, 1 in one run and 0, 1, 3, 2 in the other: each place holds another way, and of way 0 and the neighbour's way 3 another is
+-- the more recent. Of ways 0 and 1 it is way 0 in both, and the domain's own part is 0, 1. Its answers are the same: it has filled both its
+-- ways and evicted way 0, the older then.
+record OtherOrder : Type 0 where
+  run : wholeWord ≡ 0x1023
+  purged : struckWord ≡ 0x2310
+  pair : (lru 4 .view wholeWord (0, 3) ≡ false) × (lru 4 .view struckWord (0, 3) ≡ true)
+  own-pair : (lru 4 .view wholeWord (0, 1) ≡ true) × (lru 4 .view struckWord (0, 1) ≡ true)
+  own-part : (lru 4 .part 3 wholeWord ≡ 0x10) × (lru 4 .part 3 struckWord ≡ 0x10)
+  works : ownAnswers ordered 0 turns (fresh ordered) ≡ (6 ∷ 0 ∷ 0 ∷ []) ∷ (1 ∷ 0 ∷ []) ∷ (1 ∷ 1 ∷ []) ∷ (2 ∷ 0 ∷ 0 ∷ 1 ∷ []) ∷ []
+  works-struck : ownAnswers ordered 0 (purge 0 turns) (fresh ordered) ≡ (6 ∷ 0 ∷ 0 ∷ []) ∷ (1 ∷ 0 ∷ []) ∷ (1 ∷ 1 ∷ []) ∷ (2 ∷ 0 ∷ 0 ∷ 1 ∷ []) ∷ []
+
 -- ---- the verdicts on a neighbour
 
 -- Domain 0 has ways 0 and 2. Domain 1 asks for way 2, which is refused by 8; for ways 1 and 3, whose root is domain 0's too, refused by 9; and for
@@ -80,7 +112,7 @@ record Verdicts : Type 0 where
 -- ---- both runs, computed
 
 -- each of these holds by the definitions alone
-computed : NotEmpty × OtherWays × OtherBits × OtherDrops × Verdicts
+computed : NotEmpty × OtherWays × OtherBits × OtherDrops × Verdicts × OtherOrder
 unfolding answersTo ownAnswers verdicts numberOf purge keeps computing
 computed = (
   record { dropped = (refl, refl); works = refl; neighbour = refl; neighbour-struck = refl; handed-over = refl },
@@ -88,6 +120,7 @@ computed = (
   record { run = refl; purged = refl },
   record { run = refl; purged = refl },
   record { run = refl; own = refl },
+  record { run = refl; purged = refl; pair = (refl, refl); own-pair = (refl, refl); own-part = (refl, refl); works = refl; works-struck = refl },
 )
 
 not-empty : NotEmpty
@@ -104,3 +137,6 @@ other-drops = computed .3
 
 verdicts-differ : Verdicts
 verdicts-differ = computed .4
+
+orders-differ : OtherOrder
+orders-differ = computed .5
