@@ -120,6 +120,9 @@ module _ (W : ℕ) (small : W ≤ 16) where
   unfolding written
   order-written x o e =
       cases (eqb (wordOf o) (wordOf (order W x)))
-      (λ t. rw t (sym (word-told o (order W x) (each-sixteen o e) (each-sixteen (order W x) (order-each W x))
-      (each-long W o e ∙ sym (each-long W (order W x) (order-each W x))) (eqb-true (wordOf o) (wordOf (order W x)) t))))
+      (λ t. let told : o ≡ order W x =
+      word-told o (order W x) (each-sixteen o e) (each-sixteen (order W x) (order-each W x))
+      (each-long W o e ∙ sym (each-long W (order W x) (order-each W x))) (eqb-true (wordOf o) (wordOf (order W x)) t) in
+      let read : order W (wordOf o) ≡ o = order-word o e in
+      rw t cc)
       (λ t. rw t (order-word o e))

@@ -118,7 +118,7 @@ nru-isolates W bound = record {
 -- words with the same own part agree on every two ways of the map
 own-pairs : (W map x y : ℕ) → SameOwn (lru W) map x y → (v w : ℕ) → bit map v ≡ true → bit map w ≡ true
     → Lru.before (Lru.order W x) v w ≡ Lru.before (Lru.order W y) v w
-own-pairs W map x y same v w s t = same (v, w) (rw (s, t))
+own-pairs W map x y same v w s t = same (v, w) (cc (s, t))
 
 pub lru-isolates : (W : ℕ) → W ≤ 16 → Isolates W (lru W)
 lru-isolates W bound = record {
