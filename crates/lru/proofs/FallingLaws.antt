@@ -70,8 +70,12 @@ fall-begin map h = record { left-lt = h; is = refl }
 found : {map left out : ℕ} → Falling map left out → (left ≡ 0 → ⊥) → (lowest 16 (bit left) < 16) × (bit left (lowest 16 (bit left)) ≡ true)
 found {map} {left} f some = lowest-found 16 (bit left) (any-bits 16 left (f .left-lt) ∙ ap not (ne-eqb left 0 some))
 
-pub fall-way : {map left out way : ℕ} → Falling map left out → (left ≡ 0 → ⊥) → way ≡ lowest 16 (bit left) → way < 16
+fall-way : {map left out way : ℕ} → Falling map left out → (left ≡ 0 → ⊥) → way ≡ lowest 16 (bit left) → way < 16
 fall-way f some low = rw low (found f some .0)
+
+-- one way more fits its word
+pub fall-fits : {map left out way : ℕ} → Falling map left out → (left ≡ 0 → ⊥) → way ≡ lowest 16 (bit left) → (out * 16) % 2 ^ 64 + way < 2 ^ 64
+fall-fits f some low = omega (arith, fall-way f some low)
 
 pub fall-turned : {map left out way : ℕ} → Falling map left out → (left ≡ 0 → ⊥) → way ≡ lowest 16 (bit left)
     → Falling map (bitAnd left (left - 1)) ((out * 16) % 2 ^ 64 + way)

@@ -2,7 +2,7 @@
 use native.Mathlib.Omega.{arith}
 use Prim.Native.Nat.{_-_}
 use lib.Bits.{and-le-r}
-use Rattle.lru.proofs.FallingLaws.{Falling, fall-begin, fall-way, fall-turned, fall-end}
+use Rattle.lru.proofs.FallingLaws.{Falling, fall-begin, fall-fits, fall-turned, fall-end}
 use Rattle.lru.proofs.orders.falling.Statement.{statement}
 use Rattle.lru.proofs.orders.falling.Tie as tie
 
@@ -19,7 +19,7 @@ lowest-way-requires : tie.Need-lowest-way-requires Inv-loop μ-loop
 lowest-way-requires c κs = tt
 
 add-out : tie.Need-add-out Inv-loop μ-loop
-add-out c = omega (arith, fall-way (c .before .before .loop .inv) (c .before .loop-test .taken) (c .lowest-way .ensures))
+add-out c = record { fits = fall-fits (c .before .before .loop .inv) (c .before .loop-test .taken) (c .lowest-way .ensures) }
 
 sub-left : tie.Need-sub-left Inv-loop μ-loop
 sub-left c = omega (arith, c .before .loop-test .taken)
