@@ -1,17 +1,16 @@
 -- Which of two ways stands before the other, in an order and in orders made of it; and that this says what an order is.
 use mathlib.Core.Path.{_≡_, refl, sym, ap, ap₂, subst, _∙_}
-use mathlib.Core.Bool.{Bool, true, false, cond, not, _&&_, _||_, true≢false}
+use mathlib.Core.Bool.{Bool, true, false, not, _&&_, _||_, true≢false}
 use mathlib.Core.List.{[], _∷_, _++_}
-use Prim.Native.Nat.{ℕ, zero, suc, _+_, _≤_, _<_}
+use Prim.Native.Nat.{ℕ, _+_, _≤_}
 use native.Mathlib.Nat.{zero-add}
 use native.Mathlib.Omega.{arith}
-use lib.Dec.{eqb, ltb}
-use lib.ListN.{length}
-use borrow.Author.Tests.{eqb-true, eqb-false, eq-eqb, ne-eqb}
+use lib.Dec.{eqb}
+use borrow.Author.Tests.{eqb-true, eq-eqb, ne-eqb}
 use Rattle.waymap.specs.Bits.{Bits, digit}
 use Rattle.waymap.proofs.Booleans.{cases}
 use Rattle.lru.specs.Lru.{Order, times, kept, others, joined, before}
-use Rattle.lru.proofs.OrderLaws.{times-head, times-kept, times-append, Each}
+use Rattle.lru.proofs.OrderLaws.{times-head, times-kept, Each, kept-times}
 
 -- whether a way stands in an order
 abbrev pub stands : ℕ → Order → Bool
@@ -135,8 +134,7 @@ joined-agrees W p o q a b v w eo eq ea eb first second =
   where
     -- the same ways are taken from either
     same : (r : Bits) (u : ℕ) (c d : Order) → Each W c → Each W d → stands u (kept r c) ≡ stands u (kept r d)
-    same r u c d ec ed =
-        ap (λ (n : ℕ). not (eqb n 0)) (times-kept r u c ∙ ap (λ (n : ℕ). cond (r u) n 0) (ec u ∙ sym (ed u)) ∙ sym (times-kept r u d))
+    same r u c d ec ed = ap (λ (n : ℕ). not (eqb n 0)) (kept-times W r c d ec ed u)
 
 -- ---- an order is known by what stands before what
 

@@ -2,11 +2,11 @@
 use mathlib.Core.Path.{_≡_, refl, sym, ap, ap₂, _∙_}
 use mathlib.Core.Bool.{Bool, true, false, cond, not, true≢false}
 use mathlib.Core.List.{[], _∷_, _++_, append-nil}
-use Prim.Native.Nat.{ℕ, zero, suc, _+_, _-_, _*_, _%_, _^_, _≤_, _<_}
+use Prim.Native.Nat.{ℕ, _+_, _-_, _^_, _≤_, _<_}
 use native.Mathlib.Omega.{arith}
 use lib.Dec.{eqb, ltb}
 use lib.Bits.{bitXor, xor-lt}
-use lib.ListN.{length, length-append}
+use lib.ListN.{length}
 use borrow.Author.Tests.{eqb-true, eq-eqb, ltb-true, ltb-false, lt-ltb}
 use Rattle.waymap.specs.Bits.{Bits, bit, digit, word, reaches}
 use Rattle.waymap.specs.Ways.{isWays, takes}
@@ -16,10 +16,11 @@ use Rattle.waymap.proofs.BitLaws.{bit-xor, bit-not}
 use Rattle.waymap.proofs.WordLaws.{from-bits}
 use Rattle.waymap.proofs.WordLaws as WordLaws
 use Rattle.waymap.proofs.NumberLaws as NumberLaws
-use Rattle.lru.specs.Lru.{Order, places, wordOf, times, fresh, order, written, kept, others, joined, touched, touch, changes, aged, reset, last, victim, own}
+use Rattle.lru.specs.Lru.{Order, places, wordOf, times, fresh, order, written, kept, others}
+use Rattle.lru.specs.Lru.{joined, touched, touch, changes, aged, reset, last, victim, own}
 use Rattle.lru.specs.Inside.{ahead}
 use Rattle.lru.specs.Calls.{victimOf, touchOf, changeOf, resetOf, ownOf}
-use Rattle.lru.proofs.OrderLaws.{eqb-sym, times-append, Below, below-head, below-tail, below-kept, Each, each-below, each-long, fresh-each, joined-each}
+use Rattle.lru.proofs.OrderLaws.{eqb-sym, times-append, Below, below-head, below-tail, below-kept, Each, each-long, fresh-each, joined-each}
 use Rattle.lru.proofs.BeforeLaws.{not-first}
 use Rattle.lru.proofs.LruLaws.{aged-each}
 use Rattle.lru.proofs.FallingLaws.{kept-wider}
@@ -78,11 +79,6 @@ module _ (W x : ℕ) (small : W ≤ 16) where
 
   low : (p : Bits) → Below 16 (kept p (order W x))
   low p = below-kept 16 p (order W x) (each-sixteen W small (order W x) (order-each W x))
-
-  -- of a test that a loop goes by
-  loop-kept : {p q : Bits} → ((w : ℕ) → w < 16 → p w ≡ q w) → kept p (places W (wordOf (order W x))) ≡ kept q (order W x)
-  loop-kept {p} {q} e =
-      ap (λ (o : Order). kept p o) read ∙ kept-ext 16 (order W x) (each-sixteen W small (order W x) (order-each W x)) e
 
   pub victim-word : (m : Bits) → last 0 (kept m (places W (wordOf (order W x)))) ≡ victim W m x
   unfolding victim
@@ -211,7 +207,8 @@ change-takes : (W old new : ℕ) → takes W old ≡ true → takes W new ≡ tr
 unfolding takes
 change-takes W old new s t h k =
     let both : bitXor old new < 2 ^ W = xor-lt W old new (NumberLaws.takes-below W old s h) (NumberLaws.takes-below W new t k) in
-    NumberLaws.takes-both W (changeOf old new) (and-left (isWays W) (not (reaches W old)) s) (rw (sym (change-word old new h k)) (reach-below W (bitXor old new) both))
+    NumberLaws.takes-both W (changeOf old new) (and-left (isWays W) (not (reaches W old)) s)
+    (rw (sym (change-word old new h k)) (reach-below W (bitXor old new) both))
 
 pub change-resets : (W old new x : ℕ) → takes W old ≡ true → takes W new ≡ true → old < 2 ^ 16 → new < 2 ^ 16
     → resetOf W x (changeOf old new) ≡ reset W (bit old) (bit new) x

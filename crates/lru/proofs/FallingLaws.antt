@@ -1,6 +1,6 @@
 -- The ways of a map put one by one, the lowest first: they stand as in the fresh order.
 use mathlib.Core.Path.{_≡_, refl, sym, ap, _∙_}
-use mathlib.Core.Bool.{Bool, true, false, cond, not, _&&_, and-true, and-false}
+use mathlib.Core.Bool.{true, false, not, _&&_, and-true, and-false}
 use mathlib.Core.List.{[], _∷_, _++_}
 use Prim.Native.Nat.{ℕ, zero, suc, _+_, _-_, _*_, _%_, _^_, _≤_, _<_}
 use native.Mathlib.Nat.{zero-add, lt-of-le-of-lt}
@@ -8,7 +8,7 @@ use native.Mathlib.Omega.{arith}
 use lib.Dec.{eqb}
 use lib.Bits.{bitAnd, and-le-l}
 use borrow.Author.Tests.{eqb-true, eqb-false, ne-eqb}
-use Rattle.waymap.specs.Bits.{Bits, bit, any, lowest}
+use Rattle.waymap.specs.Bits.{Bits, bit, lowest}
 use Rattle.waymap.proofs.Booleans.{cases}
 use Rattle.waymap.proofs.BitLaws.{bit-none}
 use Rattle.waymap.proofs.WayLaws.{any-bits, lowest-found, lowest-first}

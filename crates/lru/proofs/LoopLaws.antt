@@ -1,7 +1,7 @@
 -- The loops over a word's places: what holds at each turn.
-use mathlib.Core.Path.{_≡_, refl, sym, ap, ap₂, _∙_}
+use mathlib.Core.Path.{_≡_, refl, sym, ap, _∙_}
 use mathlib.Core.Bool.{Bool, true, false, cond, not, _||_, and-false, or-assoc, or-true, or-false, true≢false}
-use mathlib.Core.List.{[], _∷_, _++_}
+use mathlib.Core.List.{_∷_}
 use Prim.Native.Nat.{ℕ, zero, suc, _+_, _-_, _*_, _/_, _%_, _^_, _≤_, _<_}
 use native.Mathlib.Nat.{zero-add, sub-zero, div-one, div-div-eq-div-mul, pow-suc}
 use native.Mathlib.Numerals.{add-one}
@@ -9,13 +9,12 @@ use native.Mathlib.Omega.{arith}
 use lib.Dec.{eqb, ltb}
 use lib.Bits.{bitOr, or-lt}
 use lib.Pow.{pow-add}
-use lib.ListN.{length}
 use borrow.Author.Tests.{eqb-true, eqb-false, eq-eqb, ne-eqb, lt-ltb, not-true}
 use Rattle.waymap.specs.Bits.{Bits, bit, digit, word}
 use Rattle.waymap.proofs.Booleans.{cases}
 use Rattle.waymap.proofs.BitLaws.{bit-or, bit-none}
 use Rattle.waymap.proofs.WordLaws.{word-lt, bit-word, bit-word-in, from-bits}
-use Rattle.lru.specs.Lru.{Order, places, wordOf, times, malformed, fresh, kept, last}
+use Rattle.lru.specs.Lru.{places, wordOf, times, malformed, fresh, kept, last}
 use Rattle.lru.specs.Inside.{ahead}
 use Rattle.lru.proofs.PlaceLaws.{shifted, places-long, places-each, each-formed}
 use Rattle.lru.proofs.OrderLaws.{Each, none-missing}

@@ -1,18 +1,18 @@
 -- True LRU, for every number W of ways up to sixteen: the victim lies in the map, and a change of the order goes by what it should.
-use mathlib.Core.Path.{_≡_, refl, sym, ap, ap₂, _∙_}
-use mathlib.Core.Bool.{Bool, true, false, cond, not, _&&_, _||_, xor, true≢false}
+use mathlib.Core.Path.{_≡_, refl, sym, ap, _∙_}
+use mathlib.Core.Bool.{true, false, not, _||_, xor, true≢false}
 use mathlib.Core.List.{[], _∷_}
-use Prim.Native.Nat.{ℕ, zero, suc, _≤_, _<_}
+use Prim.Native.Nat.{ℕ, _≤_, _<_}
 use native.Mathlib.Omega.{arith}
 use lib.Dec.{eqb, ltb}
-use lib.ListN.{length}
 use borrow.Author.Tests.{eqb-true, ne-eqb, lt-ltb, not-true}
 use Rattle.waymap.specs.Bits.{Bits, digit, any}
 use Rattle.waymap.proofs.Booleans.{cases, or-none}
 use Rattle.waymap.proofs.BitLaws.{digit-lt}
 use Rattle.waymap.proofs.WayLaws.{any-found}
 use Rattle.lru.specs.Lru.{Order, wordOf, times, fresh, order, kept, others, touched, touch, last, victim, changes, aged, reset, before, own}
-use Rattle.lru.proofs.OrderLaws.{times-kept, below-head, below-tail, Below, below-kept, below-same, Each, each-below, fresh-each, joined-each}
+use Rattle.lru.proofs.OrderLaws.{times-kept, below-head, below-tail, Below, below-kept}
+use Rattle.lru.proofs.OrderLaws.{below-same, Each, each-below, fresh-each, joined-each, kept-times}
 use Rattle.lru.proofs.PlaceLaws.{word-told, order-each, each-sixteen, order-written}
 use Rattle.lru.proofs.BeforeLaws.{before-absent, before-alone, before-kept, joined-second, joined-agrees, order-known}
 
@@ -55,12 +55,9 @@ abbrev Agree : Bits → Order → Order → Type 0
 Agree m o q = (v w : ℕ) → m v ≡ true → m w ≡ true → before o v w ≡ before q v w
 
 module _ (W : ℕ) (m : Bits) (o q : Order) (e : Each W o) (f : Each W q) where
-  kept-times : (w : ℕ) → times w (kept m o) ≡ times w (kept m q)
-  kept-times w = times-kept m w o ∙ ap (λ (n : ℕ). cond (m w) n 0) (e w ∙ sym (f w)) ∙ sym (times-kept m w q)
-
   -- then the map's ways stand in the same order
   kept-known : Agree m o q → kept m o ≡ kept m q
-  kept-known agree = order-known (kept m o) (kept m q) kept-times once known
+  kept-known agree = order-known (kept m o) (kept m q) (kept-times W m o q e f) once known
     where
       once : (w : ℕ) → times w (kept m o) ≤ 1
       once w = rw (times-kept m w o, e w) (cases (m w) (λ t. rw t (omega (arith, digit-lt (ltb w W)))) (λ t. rw t (omega arith)))
@@ -73,7 +70,8 @@ module _ (W : ℕ) (m : Bits) (o q : Order) (e : Each W o) (f : Each W q) where
           cases (m v)
           (λ s. cases (m w)
           (λ t. before-kept m o v w s t ∙ agree v w s t ∙ sym (before-kept m q v w s t))
-          (λ t. before-alone (kept m o) v w (gone o w t) ∙ ap (λ (n : ℕ). not (eqb n 0)) (kept-times v) ∙ sym (before-alone (kept m q) v w (gone q w t))))
+          (λ t. before-alone (kept m o) v w (gone o w t) ∙ ap (λ (n : ℕ). not (eqb n 0)) (kept-times W m o q e f v)
+          ∙ sym (before-alone (kept m q) v w (gone q w t))))
           (λ s. before-absent (kept m o) v w (gone o v s) ∙ sym (before-absent (kept m q) v w (gone q v s)))
 
   kept-agrees : kept m o ≡ kept m q → Agree m o q

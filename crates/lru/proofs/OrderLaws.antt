@@ -1,15 +1,14 @@
 -- Orders as lists of ways: how often a way stands in one, and how many ways that makes.
 use mathlib.Core.Path.{_≡_, refl, sym, ap, ap₂, _∙_}
-use mathlib.Core.Bool.{Bool, true, false, cond, not}
+use mathlib.Core.Bool.{cond}
 use mathlib.Core.List.{[], _∷_, _++_}
 use Prim.Native.Nat.{ℕ, zero, suc, _+_, _≤_, _<_}
 use native.Mathlib.Omega.{arith}
 use lib.Dec.{eqb, ltb, leb}
 use lib.ListN.{length}
-use borrow.Author.Tests.{eqb-true, eqb-false, eq-eqb, ne-eqb, lt-ltb, le-ltb, ltb-true, ltb-false, leb-true, leb-false, le-leb, lt-leb}
+use borrow.Author.Tests.{eqb-true, eqb-false, eq-eqb, ne-eqb, lt-ltb, le-ltb, ltb-true, ltb-false, leb-true, leb-false, le-leb}
 use Rattle.waymap.specs.Bits.{Bits, digit}
 use Rattle.waymap.proofs.Booleans.{cases}
-use Rattle.waymap.proofs.BitLaws.{digit-lt}
 use Rattle.lru.specs.Lru.{Order, times, fresh, kept, others, joined}
 
 pub eqb-sym : (a b : ℕ) → eqb a b ≡ eqb b a
@@ -176,3 +175,7 @@ fresh-each (suc n) w = rw (fresh-each n w, eqb-sym n w) (one-more n w)
 -- an order made of two
 pub joined-each : (W : ℕ) (p : Bits) (o q : Order) → Each W o → Each W q → Each W (joined p o q)
 joined-each W p o q e f w = times-joined p w o q ∙ cases (p w) (λ t. rw t (e w)) (λ t. rw t (f w))
+
+-- and the same ways of two such orders pass a test
+pub kept-times : (W : ℕ) (p : Bits) (o q : Order) → Each W o → Each W q → (w : ℕ) → times w (kept p o) ≡ times w (kept p q)
+kept-times W p o q e f w = times-kept p w o ∙ ap (λ (n : ℕ). cond (p w) n 0) (e w ∙ sym (f w)) ∙ sym (times-kept p w q)

@@ -1,14 +1,14 @@
 -- Orders in words: a written order is read as that order, and every word is read as an order of each way once.
-use mathlib.Core.Path.{_≡_, refl, sym, ap, ap₂, _∙_}
-use mathlib.Core.Bool.{Bool, true, false, cond, not, _||_}
+use mathlib.Core.Path.{_≡_, refl, sym, ap, _∙_}
+use mathlib.Core.Bool.{true, false, not}
 use mathlib.Core.List.{[], _∷_}
 use Prim.Native.Nat.{ℕ, zero, suc, _+_, _*_, _/_, _%_, _^_, _≤_, _<_}
 use native.Mathlib.Nat.{div-one, div-div-eq-div-mul, div-eq-of-lt, pow-succ'}
 use native.Mathlib.Omega.{arith}
-use lib.Dec.{eqb, ltb}
+use lib.Dec.{eqb}
 use lib.ListN.{length}
-use borrow.Author.Tests.{eqb-true, eqb-false, eq-eqb, ne-eqb, lt-ltb, not-false}
-use Rattle.waymap.specs.Bits.{Bits, digit, any}
+use borrow.Author.Tests.{eqb-true, ne-eqb, lt-ltb, not-false}
+use Rattle.waymap.specs.Bits.{any}
 use Rattle.waymap.proofs.Booleans.{cases, or-none}
 use Rattle.waymap.proofs.WayLaws.{any-none, none-at}
 use Rattle.lru.specs.Lru.{Order, places, wordOf, times, malformed, fresh, order, written}

@@ -1,5 +1,5 @@
 -- `replacement::conflict` meets its contract.
-use mathlib.Core.Path.{_≡_, sym, ap, _∙_}
+use mathlib.Core.Path.{_≡_, sym, _∙_}
 use mathlib.Core.Bool.{true, false}
 use lib.Bits.{bitOr}
 use borrow.Author.Tests.{not-true}

@@ -1,6 +1,5 @@
 -- `lru::orders::read` meets its contract.
-use mathlib.Core.Path.{_≡_, sym, _∙_}
-use mathlib.Core.Bool.{true, false}
+use mathlib.Core.Path.{sym, _∙_}
 use borrow.Author.Needs.{needs}
 use borrow.Author.Tests.{not-true, not-false}
 use Rattle.lru.proofs.PlaceLaws.{formed-word, malformed-word}
