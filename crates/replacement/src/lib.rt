@@ -29,7 +29,7 @@ pub enum Change {
     // The bits of these ways become one.
     Raise(u64),
     // Of so many ways, these move to the old end.
-    Age { ways: u16, moves: u16 },
+    Age { ways: usize, moves: u16 },
     // The word stays as it is.
     Stay,
 }
@@ -142,7 +142,7 @@ pub fn change_of(ways: usize, rule: usize, old: u16, new: u16) -> Change
         return Change::Raise(nru::change(old, new));
     }
     Change::Age {
-        ways: ways as u16,
+        ways,
         moves: lru::change(old, new),
     }
 }
@@ -154,7 +154,7 @@ pub fn changed(change: Change, word: u64) -> u64
     match change {
         Change::Clear(nodes) => tree::reset(word, nodes),
         Change::Raise(ways) => nru::reset(word, ways),
-        Change::Age { ways, moves } => lru::reset(ways as usize, word, moves),
+        Change::Age { ways, moves } => lru::reset(ways, word, moves),
         Change::Stay => word,
     }
 }

@@ -2,12 +2,11 @@
 use mathlib.Core.Path.{_≡_, sym, ap, _∙_}
 use mathlib.Core.Bool.{true, not, _&&_}
 use Prim.Native.Nat.{ℕ}
-use native.Mathlib.Omega.{arith}
 use Rattle.waymap.specs.Bits.{reaches}
 use Rattle.replacement.specs.Calls.{inLimits}
 use Rattle.replacement.specs.Change.{changeOf}
 use Rattle.replacement.specs.declared.Change.the-variants.{Clear, Raise, Age}
-use Rattle.replacement.proofs.CallLaws.{sized, two, either-reach}
+use Rattle.replacement.proofs.CallLaws.{two, either-reach}
 use borrow.Author.Needs.{needs}
 use Rattle.replacement.proofs.change_of.Statement.{statement}
 use Rattle.replacement.proofs.change_of.Tie as tie
@@ -62,9 +61,6 @@ returns-4 c =
     let t = c .before .before .before in
     rw (limits t, reach t, c .before .if4 .taken) (ap Raise (c .change2 .ensures))
 
-cast-t7 : tie.Need-cast-t7
-cast-t7 c = omega (arith, sized _ _ (limits (c .before .before)) .most)
-
 change-requires-3 : tie.Need-change-requires-3
 change-requires-3 c κs = search needs
 
@@ -87,6 +83,5 @@ change-of-spec =
     returns-3
     change-requires-2
     returns-4
-    cast-t7
     change-requires-3
     returns-5)

@@ -19,9 +19,6 @@ reset-requires-2 c κs = search needs
 enum-known-change-3 : tie.Need-enum-known-change-3
 enum-known-change-3 c = search needs
 
-cast-reset : tie.Need-cast-reset
-cast-reset c = search needs
-
 reset-requires-3 : tie.Need-reset-requires-3
 reset-requires-3 c κs = search needs
 
@@ -49,7 +46,6 @@ changed-spec =
     enum-known-change-2
     reset-requires-2
     enum-known-change-3
-    cast-reset
     reset-requires-3
     enum-told
     returns
