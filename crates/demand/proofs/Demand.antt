@@ -14,6 +14,7 @@ use Rattle.purge.specs.Purge.{purge}
 use Rattle.isolation.specs.StruckOut.{StruckOut}
 use Rattle.isolation.proofs.Isolation.{isolation}
 use Rattle.demand.specs.Demand.{Limits, fresh, events, end, struckOut, seen, seenIn, WellFormed, Demand}
+use Rattle.demand.proofs.OrderLaws.{orders-last}
 use Rattle.demand.proofs.LimitLaws.{ways-sized, within-limits, fresh-is}
 use Rattle.demand.proofs.RunLaws.{struck-is, end-is, own-is, verdictIn, verdicts-are}
 use Rattle.demand.proofs.SeenLaws.{domain-same, lines-same, bits-same, pairs-same, is-well-formed}
@@ -32,7 +33,7 @@ module _ (g : Geometry) (l : Limits g) (d : ℕ) where
       ap (λ (s : State). seen g d (events g cs s) (end g cs s)) (fresh-is g l) ∙ ap (seen g d (events g cs start)) (end-is g cs start)
 
   formed : (cs : List Command) → WellFormed g d (end g cs (fresh g))
-  formed cs = rw (fresh-is g l, end-is g cs start) (is-well-formed g limits d (finally g cs start) (run-kept g limits cs))
+  formed cs = rw (fresh-is g l, end-is g cs start) (is-well-formed g limits d (finally g cs start) (run-kept g limits cs) (orders-last g limits cs))
 
   module _ (low : d < 16) (cs : List Command) where
     claim : StruckOut g d cs

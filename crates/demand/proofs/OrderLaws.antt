@@ -1,22 +1,34 @@
 -- The order by places is the order that true LRU goes by.
 use mathlib.Core.Path.{_≡_, refl, sym, ap, ap₂, subst, _∙_}
 use mathlib.Core.Bool.{Bool, true, false, cond, not, _&&_, _||_}
-use mathlib.Core.List.{[], _∷_}
+use mathlib.Core.List.{List, [], _∷_}
 use Prim.Native.Nat.{ℕ, zero, suc, _+_, _-_, _*_, _/_, _%_, _^_, _≤_, _<_}
 use native.Mathlib.Nat.{div-one, div-eq-of-lt}
 use native.Mathlib.Omega.{arith}
 use lib.Dec.{eqb, ltb}
+use lib.ListN.{getD}
 use borrow.Author.Tests.{eqb-true, eqb-false, eq-eqb, ne-eqb, ltb-true, ltb-false, lt-ltb, le-ltb}
-use Rattle.waymap.specs.Bits.{any}
+use Rattle.waymap.specs.Bits.{bit, any}
 use Rattle.waymap.proofs.Booleans.{cases}
-use Rattle.lru.specs.Lru.{Order, places, wordOf, times, malformed, fresh, order, before}
+use Rattle.lru.specs.Lru.{Order, places, wordOf, times, malformed, order, before}
+use Rattle.lru.specs.Lru as Lru
+use Rattle.lru.proofs.LruLaws.{touch-formed, reset-formed, fresh-formed}
+use Rattle.replacement.specs.Rule.{ruleOf}
+use Rattle.command.specs.Command.{Command}
+use Rattle.geometry.specs.Geometry.{within}
+use Rattle.geometry.specs.declared.Geometry.{Geometry}
+use Rattle.geometry.proofs.GeometryLaws.{limited}
+use Rattle.steps.specs.Tables.{rowAt}
+use Rattle.steps.specs.Run.{finally}
+use Rattle.steps.specs.Fresh.{fresh}
+use Rattle.steps.proofs.WordLaws.{Lasting, words-last}
 use Rattle.lru.proofs.PlaceLaws.{shifted, places-long, places-below, word-lt, word-places}
 use Rattle.demand.specs.Order.{freshWord, wayAt, howMany, firstOf, isOrder, placeOf}
 
 -- ---- a fresh word
 
-pub fresh-word : (W : ℕ) → freshWord W ≡ wordOf (fresh W)
-unfolding freshWord wordOf fresh
+pub fresh-word : (W : ℕ) → freshWord W ≡ wordOf (Lru.fresh W)
+unfolding freshWord wordOf Lru.fresh
 fresh-word zero = refl
 fresh-word (suc n) = ap (λ (x : ℕ). n + 16 * x) (fresh-word n)
 
@@ -42,8 +54,8 @@ before-index (u ∷ o) v w =
     (λ s. rw (t, s) (lt-ltb 0 (suc (index w o)) (omega arith)))
     (λ s. rw (t, s, ltb-suc (index v o) (index w o)) (before-index o v w)))
 
-fresh-index : (W w : ℕ) → w < W → index w (fresh W) ≡ W - 1 - w
-unfolding fresh
+fresh-index : (W w : ℕ) → w < W → index w (Lru.fresh W) ≡ W - 1 - w
+unfolding Lru.fresh
 fresh-index zero w h = absurd (omega arith)
 fresh-index (suc n) w h =
     cases (eqb n w)
@@ -145,3 +157,22 @@ place-is W x w h =
 
 pub before-is : (W x v w : ℕ) → v < W → w < W → ltb (placeOf W x v) (placeOf W x w) ≡ before (order W x) v w
 before-is W x v w h k = rw (place-is W x v h, place-is W x w k) (before-index (order W x) v w)
+
+-- ---- in a run every word holds an order
+
+lru-lasts : (W : ℕ) → W ≤ 16 → Lasting (ruleOf 2 W) (λ (x : ℕ). malformed W x ≡ false)
+lru-lasts W small = record {
+  begins = fresh-formed W small;
+  before = λ map x formed. formed;
+  touch = λ map w x formed. touch-formed W small (bit map) w x formed;
+  reset = λ old new x formed. reset-formed W small (bit old) (bit new) x formed;
+}
+
+pub orders-last : (g : Geometry) → within g ≡ true → (cs : List Command) → g .rule ≡ 2 → (i : ℕ) → i < g .sets
+    → isOrder (g .ways) (getD (finally g cs (fresh g) .tables .words) i 0) ≡ true
+unfolding rowAt
+orders-last g limits cs two i h =
+    order-is (g .ways) (getD (finally g cs (fresh g) .tables .words) i 0)
+    ∙ ap not (words-last g limits (λ (x : ℕ). malformed (g .ways) x ≡ false)
+    (subst (λ (r : ℕ). Lasting (ruleOf r (g .ways)) (λ (x : ℕ). malformed (g .ways) x ≡ false)) (sym two)
+    (lru-lasts (g .ways) (limited g limits .most-ways))) cs i h)

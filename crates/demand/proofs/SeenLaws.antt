@@ -26,7 +26,7 @@ use Rattle.steps.proofs.RunLaws.{Kept}
 use Rattle.isolation.specs.StruckOut.{SameTo}
 use Rattle.isolation.proofs.LineUnwinding.{policy-cut}
 use Rattle.demand.specs.Free.{digit, isFree}
-use Rattle.demand.specs.Order.{placeOf}
+use Rattle.demand.specs.Order.{isOrder, placeOf}
 use Rattle.demand.specs.Demand.{domainAt, each, lines, isOwn, bits, isPair, pairs, WellFormed}
 use Rattle.demand.proofs.FreeLaws.{free-is}
 use Rattle.demand.proofs.OrderLaws.{before-is}
@@ -145,8 +145,9 @@ module _ (g : Geometry) (limits : within g ≡ true) (d : ℕ) where
 
   -- ---- what is compared is there
 
-  pub is-well-formed : (s : State) → Kept g limits s → WellFormed g d s
-  is-well-formed s kept = record {
+  pub is-well-formed : (s : State) → Kept g limits s
+      → (g .rule ≡ 2 → (i : ℕ) → i < g .sets → isOrder (g .ways) (getD (s .tables .words) i 0) ≡ true) → WellFormed g d s
+  is-well-formed s kept hold = record {
     tags-long = kept .whole .shaped .tags-long;
     valid-long = kept .whole .shaped .valid-long;
     dirty-long = kept .whole .shaped .dirty-long;
@@ -154,6 +155,7 @@ module _ (g : Geometry) (limits : within g ≡ true) (d : ℕ) where
     sixteen = kept .whole .sixteen;
     hit-within = λ w e. cut .within w (set-at (domainAt d s .hit) w e);
     fill-part = λ w e. digit-one (domainAt d s .hit) w (cut .part w (set-at (domainAt d s .fill) w e));
+    orders = hold;
   }
     where
       cut : Cut (g .ways) (mapsOf (domainAt d s))

@@ -1,7 +1,7 @@
 -- Document 01, "The struck-out run", for a reader who knows nothing of how the product is built. Used of the product are `step`, the definition
 -- that the contract of the cache's `step` cites, and the records of numbers and lists that a step takes and gives; the rest is written out here.
 use mathlib.Core.Path.{_≡_}
-use mathlib.Core.Bool.{Bool, cond, not, _&&_}
+use mathlib.Core.Bool.{Bool, true, cond, not, _&&_}
 use mathlib.Core.List.{List, [], _∷_}
 use Prim.Native.Nat.{ℕ, zero, suc, _+_, _-_, _*_, _^_, _≤_, _<_}
 use lib.Dec.{eqb, ltb}
@@ -11,7 +11,7 @@ use Rattle.geometry.specs.declared.Geometry.{Geometry}
 use Rattle.domains.specs.declared.Domain.{Domain}
 use Rattle.steps.specs.Step.{State, step}
 use Rattle.demand.specs.Free.{digit, isFree}
-use Rattle.demand.specs.Order.{freshWord, placeOf}
+use Rattle.demand.specs.Order.{freshWord, isOrder, placeOf}
 
 -- ---- Geometry, and a fresh cache
 
@@ -155,7 +155,7 @@ seenIn g d cs = seen g d (events g cs (fresh g)) (end g cs (fresh g))
 -- ---- The claim
 
 -- Nothing is compared that is not there: the tables have their lengths, there are sixteen domains, and the chosen domain's ways are ways of the
--- cache, with its fill map a part of its hit map.
+-- cache, with its fill map a part of its hit map. Under true LRU every word holds an order, so that none is read as fresh.
 pub record WellFormed (g : Geometry) (d : ℕ) (s : State) : Type 0 where
   pub tags-long : length (s .tables .tags) ≡ g .sets * g .ways
   pub valid-long : length (s .tables .valid) ≡ g .sets
@@ -164,6 +164,7 @@ pub record WellFormed (g : Geometry) (d : ℕ) (s : State) : Type 0 where
   pub sixteen : length (s .domains .records) ≡ 16
   pub hit-within : (w : ℕ) → digit (domainAt d s .hit) w ≡ 1 → w < g .ways
   pub fill-part : (w : ℕ) → digit (domainAt d s .fill) w ≡ 1 → digit (domainAt d s .hit) w ≡ 1
+  pub orders : g .rule ≡ 2 → (set : ℕ) → set < g .sets → isOrder (g .ways) (getD (s .tables .words) set 0) ≡ true
 
 -- The chosen domain is told and sees the same in the runs of two lists, each from a fresh cache.
 pub record Indistinguishable (g : Geometry) (d : ℕ) (cs ds : List Command) : Type 0 where

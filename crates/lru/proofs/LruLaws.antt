@@ -10,10 +10,10 @@ use Rattle.waymap.specs.Bits.{Bits, digit, any}
 use Rattle.waymap.proofs.Booleans.{cases, or-none}
 use Rattle.waymap.proofs.BitLaws.{digit-lt}
 use Rattle.waymap.proofs.WayLaws.{any-found}
-use Rattle.lru.specs.Lru.{Order, wordOf, times, fresh, order, kept, others, touched, touch, last, victim, changes, aged, reset, before, own}
+use Rattle.lru.specs.Lru.{Order, wordOf, times, malformed, fresh, order, kept, others, touched, touch, last, victim, changes, aged, reset, before, own}
 use Rattle.lru.proofs.OrderLaws.{times-kept, below-head, below-tail, Below, below-kept}
 use Rattle.lru.proofs.OrderLaws.{below-same, Each, each-below, fresh-each, joined-each, kept-times}
-use Rattle.lru.proofs.PlaceLaws.{word-told, order-each, each-sixteen, order-written}
+use Rattle.lru.proofs.PlaceLaws.{word-told, order-each, each-sixteen, word-formed, order-written, written-formed}
 use Rattle.lru.proofs.BeforeLaws.{before-absent, before-alone, before-kept, joined-second, joined-agrees, order-known}
 
 -- ---- the victim
@@ -121,6 +121,18 @@ module _ (W : ℕ) (small : W ≤ 16) where
   pub reset-order : (old new : Bits) (x : ℕ) → order W (reset W old new x) ≡ aged W (changes old new) (order W x)
   unfolding reset
   reset-order old new x = order-written W small x (aged W (changes old new) (order W x)) (aged-each W (changes old new) x)
+
+  -- and a word that was not malformed is not
+  pub touch-formed : (m : Bits) (u x : ℕ) → malformed W x ≡ false → malformed W (touch W m u x) ≡ false
+  unfolding touch
+  touch-formed m u x = written-formed W small x (touched m u (order W x)) (touched-each W m u x)
+
+  pub reset-formed : (old new : Bits) (x : ℕ) → malformed W x ≡ false → malformed W (reset W old new x) ≡ false
+  unfolding reset
+  reset-formed old new x = written-formed W small x (aged W (changes old new) (order W x)) (aged-each W (changes old new) x)
+
+  pub fresh-formed : malformed W (wordOf (fresh W)) ≡ false
+  fresh-formed = word-formed W small (fresh W) (fresh-each W)
 
 -- ways outside the map stay as they are to each other
 touched-stays : (m : Bits) (u : ℕ) (o : Order) (v w : ℕ) → m v ≡ false → m w ≡ false → before (touched m u o) v w ≡ before o v w

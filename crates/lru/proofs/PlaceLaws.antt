@@ -108,12 +108,17 @@ module _ (W : ℕ) (small : W ≤ 16) where
   pub each-sixteen : (o : Order) → Each W o → Below 16 o
   each-sixteen o e w h = each-below W o e w (omega arith)
 
+  -- the word of an order is not malformed
+  pub word-formed : (o : Order) → Each W o → malformed W (wordOf o) ≡ false
+  word-formed o e =
+      each-formed W (wordOf o) (rw (places-word W o (each-sixteen o e) (each-long W o e)) e)
+      (word-high W o (each-sixteen o e) (omega (arith, each-long W o e)))
+
   -- a written order is read as that order
   pub order-word : (o : Order) → Each W o → order W (wordOf o) ≡ o
   unfolding order
   order-word o e =
-      let read : places W (wordOf o) ≡ o = places-word W o (each-sixteen o e) (each-long W o e) in
-      rw (each-formed W (wordOf o) (rw read e) (word-high W o (each-sixteen o e) (omega (arith, each-long W o e)))) read
+      rw (word-formed o e) (places-word W o (each-sixteen o e) (each-long W o e))
 
   -- also where the word stays because that is how it was read
   pub order-written : (x : ℕ) (o : Order) → Each W o → order W (written W x o) ≡ o
@@ -126,3 +131,9 @@ module _ (W : ℕ) (small : W ≤ 16) where
       let read : order W (wordOf o) ≡ o = order-word o e in
       rw t cc)
       (λ t. rw t (order-word o e))
+
+  -- a word that is not malformed does not become so
+  pub written-formed : (x : ℕ) (o : Order) → Each W o → malformed W x ≡ false → malformed W (written W x o) ≡ false
+  unfolding written
+  written-formed x o e formed =
+      cases (eqb (wordOf o) (wordOf (order W x))) (λ t. rw t formed) (λ t. rw t (word-formed o e))

@@ -2,5 +2,6 @@
 pub mod SetLaws
 pub mod StateLaws
 pub mod RunLaws
+pub mod WordLaws
 pub mod AnswerLaws
 pub mod Computing

@@ -43,6 +43,39 @@ use Rattle.steps.proofs.StateLaws.{
   changed-other,
 }
 
+-- ---- what every access, flush and change of policy keeps, every run keeps
+
+module _ (g : Geometry) (limits : within g ≡ true) (Q : State → Type 0) (whole : (s : State) → Q s → Whole g s)
+    (line : (s : State) → Q s → (e : ℕ) → e < 16 → (arg : ℕ) (flushes store : Bool)
+    → Q (useLine g (lineWork flushes (ruleOf (g .rule) (g .ways)) store) e arg s .state))
+    (change : (s : State) → Q s → (e : ℕ) → e < 16 → (arg : ℕ) → policyRefusal g (policies (g .ways) (s .domains)) e arg ≡ 0
+    → Q (changePolicy g e arg s .state)) where
+  -- a step that is turned down leaves what was there
+  decided-lasts : (s : State) → Q s → (n : ℕ) (o : Outcome) → (n ≡ 0 → Q (o .state)) → Q (decided n o s .state)
+  unfolding decided
+  decided-lasts s q n o f = cases (eqb n 0) (λ t. rw t (f (eqb-true n 0 t))) (λ t. rw t q)
+
+  kind-lasts : (s : State) → Q s → (e : ℕ) → e < 16 → (arg : ℕ) (y : Kind)
+      → Q (decided (refusalBy y g (policies (g .ways) (s .domains)) (domainOf (s .domains) e .counts) e arg) (stepBy y g e arg s) s .state)
+  unfolding refusalBy stepBy
+  kind-lasts s q e k arg (access store) = decided-lasts s q _ _ (λ z. line s q e k arg false store)
+  kind-lasts s q e k arg flush = decided-lasts s q _ _ (λ z. line s q e k arg true false)
+  kind-lasts s q e k arg policy = decided-lasts s q _ _ (λ z. change s q e k arg z)
+  kind-lasts s q e k arg unknown = decided-lasts s q 4 _ (λ z. absurd (omega arith))
+
+  step-lasts : (c : Command) (s : State) → Q s → Q (stepOn g c s .state)
+  step-lasts c s q =
+      cases (leb 16 (c .domain))
+      (λ t. rw (step-beyond g limits c s (whole s q) (leb-true 16 (c .domain) t)) q)
+      (λ t.
+      rw (step-within g limits c s (whole s q) (leb-false 16 (c .domain) t))
+      (kind-lasts s q (c .domain) (leb-false 16 (c .domain) t) (c .argument) (kindOf (c .kind))))
+
+  pub run-lasts : (cs : List Command) (s : State) → Q s → Q (finally g cs s)
+  unfolding finally
+  run-lasts [] s q = q
+  run-lasts (c ∷ cs) s q = run-lasts cs (stepOn g c s .state) (step-lasts c s q)
+
 -- ---- a fresh cache
 
 module _ (g : Geometry) (limits : within g ≡ true) where
@@ -81,16 +114,16 @@ module _ (g : Geometry) (limits : within g ≡ true) where
   same-maps : (x y : Domain) → mapsOf x ≡ mapsOf y → asRead (g .ways) (mapsOf y) ≡ mapsOf y → asRead (g .ways) (mapsOf x) ≡ mapsOf x
   same-maps x y e = subst (λ (m : Maps). asRead (g .ways) m ≡ m) (sym e)
 
-  fresh-kept : Kept (fresh g)
+  pub fresh-kept : Kept (fresh g)
   unfolding asRead word bit
   fresh-kept = record { whole = fresh-whole; as-stored = λ e. same-maps (domainOf (fresh g .domains) e) noDomain (ap mapsOf (fresh-domain e)) refl }
 
   module _ (s : State) (kept : Kept s) (e : ℕ) (k : e < 16) (arg : ℕ) where
-    inside : setOf g arg < g .sets
+    pub inside : setOf g arg < g .sets
     unfolding setOf
     inside = mod-lt (arg / 64) (l .some-set)
 
-    line-kept : (flushes store : Bool) → Kept (useLine g (lineWork flushes (ruleOf (g .rule) (g .ways)) store) e arg s .state)
+    pub line-kept : (flushes store : Bool) → Kept (useLine g (lineWork flushes (ruleOf (g .rule) (g .ways)) store) e arg s .state)
     unfolding useLine rowEffect
     line-kept flushes store = record {
       whole = line-whole g s (kept .whole) e k (setOf g arg) inside x long;
@@ -110,7 +143,7 @@ module _ (g : Geometry) (limits : within g ≡ true) where
             (rowAt (g .ways) (setOf g arg) (s .tables))
             ∙ row-long g (kept .whole .shaped) (setOf g arg) inside
 
-    change-kept : policyRefusal g (policies (g .ways) (s .domains)) e arg ≡ 0 → Kept (changePolicy g e arg s .state)
+    pub change-kept : policyRefusal g (policies (g .ways) (s .domains)) e arg ≡ 0 → Kept (changePolicy g e arg s .state)
     unfolding newDomain
     change-kept z = record {
       whole = changed-whole g e k arg s (kept .whole);
@@ -127,32 +160,6 @@ module _ (g : Geometry) (limits : within g ≡ true) where
             rw (changed-domain g e k arg s (kept .whole))
             (good-maps (g .ways) arg (passed g (policies (g .ways) (s .domains)) e arg z .good))
 
-    -- a step that is turned down leaves what was there
-    decided-kept : (n : ℕ) (o : Outcome) → (n ≡ 0 → Kept (o .state)) → Kept (decided n o s .state)
-    unfolding decided
-    decided-kept n o f = cases (eqb n 0) (λ t. rw t (f (eqb-true n 0 t))) (λ t. rw t kept)
-
-    kind-kept : (y : Kind)
-        → Kept (decided (refusalBy y g (policies (g .ways) (s .domains)) (domainOf (s .domains) e .counts) e arg) (stepBy y g e arg s) s .state)
-    unfolding refusalBy stepBy
-    kind-kept (access store) = decided-kept _ _ (λ z. line-kept false store)
-    kind-kept flush = decided-kept _ _ (λ z. line-kept true false)
-    kind-kept policy = decided-kept _ _ change-kept
-    kind-kept unknown = decided-kept 4 _ (λ z. absurd (omega arith))
-
-  step-kept : (c : Command) (s : State) → Kept s → Kept (stepOn g c s .state)
-  step-kept c s kept =
-      cases (leb 16 (c .domain))
-      (λ t. rw (step-beyond g limits c s (kept .whole) (leb-true 16 (c .domain) t)) kept)
-      (λ t.
-      rw (step-within g limits c s (kept .whole) (leb-false 16 (c .domain) t))
-      (kind-kept s kept (c .domain) (leb-false 16 (c .domain) t) (c .argument) (kindOf (c .kind))))
-
-  kept-from : (cs : List Command) (s : State) → Kept s → Kept (finally g cs s)
-  unfolding finally
-  kept-from [] s kept = kept
-  kept-from (c ∷ cs) s kept = kept-from cs (stepOn g c s .state) (step-kept c s kept)
-
   -- In a run from a fresh cache stored maps need no cutting.
   pub run-kept : (cs : List Command) → Kept (finally g cs (fresh g))
-  run-kept cs = kept-from cs (fresh g) fresh-kept
+  run-kept cs = run-lasts g limits Kept (λ s kept. kept .whole) line-kept change-kept cs (fresh g) fresh-kept
