@@ -266,7 +266,7 @@ class UpToDate(StandIns):
         for name in programs.NAMES:
             self.assertIsNotNone(crates.newest_source(root, name))
         needed = crates._needed(crates._listed(root), "lister")
-        self.assertTrue({"lister", "trace", "cache", "tree", "nru", "waymap"} <= set(needed), needed)
+        self.assertTrue({"lister", "trace", "cache", "tree", "nru", "lru", "waymap"} <= set(needed), needed)
         self.assertFalse({"purger", "stepper", "cases", "isolation"} & set(needed))
 
 
