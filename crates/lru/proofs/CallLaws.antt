@@ -8,7 +8,7 @@ use lib.Dec.{eqb, ltb}
 use lib.Bits.{bitXor, xor-lt}
 use lib.ListN.{length}
 use borrow.Author.Tests.{eqb-true, eq-eqb, ltb-true, ltb-false, lt-ltb}
-use Rattle.waymap.specs.Bits.{Bits, bit, digit, word, reaches}
+use Rattle.waymap.specs.Bits.{Bits, bit, digit, reaches}
 use Rattle.waymap.specs.Ways.{isWays, takes}
 use Rattle.waymap.proofs.Booleans.{cases, and-left}
 use Rattle.waymap.proofs.MapLaws.{reach-below}
@@ -18,12 +18,13 @@ use Rattle.waymap.proofs.WordLaws as WordLaws
 use Rattle.waymap.proofs.NumberLaws as NumberLaws
 use Rattle.lru.specs.Lru.{Order, places, wordOf, times, fresh, order, written, kept, others}
 use Rattle.lru.specs.Lru.{joined, touched, touch, changes, aged, reset, last, victim, own}
-use Rattle.lru.specs.Inside.{ahead}
+use Rattle.lru.specs.Inside.{ahead, rank, lifted}
 use Rattle.lru.specs.Calls.{victimOf, touchOf, changeOf, resetOf, ownOf}
-use Rattle.lru.proofs.OrderLaws.{eqb-sym, times-append, Below, below-head, below-tail, below-kept, Each, each-long, fresh-each, joined-each}
+use Rattle.lru.proofs.OrderLaws.{eqb-sym, times-append, Below, below-head, below-tail, below-kept, each-long, fresh-each}
 use Rattle.lru.proofs.BeforeLaws.{not-first}
 use Rattle.lru.proofs.LruLaws.{aged-each}
 use Rattle.lru.proofs.FallingLaws.{kept-wider}
+use Rattle.lru.proofs.LiftLaws.{rank-lt, lifted-word}
 use Rattle.lru.proofs.PlaceLaws.{places-below, places-word, word-lt, order-each, each-sixteen}
 
 -- ---- parts of orders
@@ -90,20 +91,21 @@ module _ (W x : ℕ) (small : W ≤ 16) where
       ap (λ (o : Order). ahead (kept m o) 0) read
       ∙ alone-word (kept m (order W x)) (low m) (omega (arith, kept-short m (order W x), each-long W (order W x) (order-each W x)))
 
-  pub touched-word : (m : Bits) (w : ℕ) → m w ≡ true → w < W
-      → ahead (w ∷ kept (others (eqb w)) (places W (wordOf (order W x)))) 0 ≡ wordOf (touched m w (order W x))
-  unfolding touched joined
-  touched-word m w t h =
-      ap (λ (o : Order). ahead (w ∷ kept (others (eqb w)) o) 0) read
-      ∙ ap (λ (o : Order). ahead (o ++ kept (others (eqb w)) (order W x)) 0) (sym first)
-      ∙ alone-word (joined (eqb w) (order W x) (order W x)) (each-sixteen W small _ each) (omega (arith, each-long W _ each))
-      ∙ rw t
-    where
-      first : kept (eqb w) (order W x) ≡ w ∷ []
-      first = kept-one w (order W x) (order-each W x w ∙ rw (lt-ltb w W h))
+  -- a way of the cache has a place, and brought to the front from it the order is the touched one
+  pub way-rank : (w : ℕ) → w < W → rank w (places W (wordOf (order W x))) < W
+  way-rank w h =
+      let stands : times w (order W x) ≡ 1 = order-each W x w ∙ rw (lt-ltb w W h) in
+      rw read (omega (arith, rank-lt w (order W x) (λ z. omega (arith, z, stands)), each-long W (order W x) (order-each W x)))
 
-      each : Each W (joined (eqb w) (order W x) (order W x))
-      each = joined-each W (eqb w) (order W x) (order W x) (order-each W x) (order-each W x)
+  pub touched-word : (m : Bits) (w : ℕ) → m w ≡ true → w < W
+      → lifted w (rank w (places W (wordOf (order W x)))) (wordOf (order W x)) ≡ wordOf (touched m w (order W x))
+  unfolding touched joined wordOf
+  touched-word m w t h =
+      let once : times w (order W x) ≡ 1 = order-each W x w ∙ rw (lt-ltb w W h) in
+      ap (λ (o : Order). lifted w (rank w o) (wordOf (order W x))) read
+      ∙ lifted-word w (order W x) once (each-sixteen W small (order W x) (order-each W x))
+      ∙ ap (λ (o : Order). wordOf (o ++ kept (others (eqb w)) (order W x))) (sym (kept-one w (order W x) once))
+      ∙ rw t
 
   pub aged-word : (moves : Bits) → ((w : ℕ) → W ≤ w → moves w ≡ false)
       → ahead (kept (others moves) (places W (wordOf (order W x)))) (ahead (kept moves (fresh 16)) 0) ≡ wordOf (aged W moves (order W x))
@@ -136,13 +138,6 @@ module _ (W x : ℕ) (small : W ≤ 16) where
 pub other-ways : (W x map : ℕ) → map < 2 ^ 16 → kept (bit (2 ^ 16 - 1 - map)) (places W x) ≡ kept (others (bit map)) (places W x)
 other-ways W x map h = kept-ext 16 (places W x) (places-below W x) (λ w k. bit-not 16 map w h ∙ rw (lt-ltb w 16 k))
 
--- all but one
-pub other-way : (W x way : ℕ) {one : ℕ} → one ≡ word 16 (λ (w : ℕ). eqb way w)
-    → kept (bit (2 ^ 16 - 1 - one)) (places W x) ≡ kept (others (eqb way)) (places W x)
-other-way W x way {one} e =
-    other-ways W x one (rw e (WordLaws.word-lt 16 (λ (w : ℕ). eqb way w)))
-    ∙ kept-ext 16 (places W x) (places-below W x) (λ w k. rw (e, WordLaws.bit-word-in 16 (λ (v : ℕ). eqb way v) w k))
-
 -- the ways in exactly one of two maps
 pub change-word : (old new : ℕ) → old < 2 ^ 16 → new < 2 ^ 16 → bitXor old new ≡ changeOf old new
 unfolding changeOf changes
@@ -169,19 +164,22 @@ module _ (W x map : ℕ) (t : takes W map ≡ true) where
   unfolding ownOf
   own-given e f = rw t (f ∙ ap (λ (n : ℕ). ahead (kept (bit map) (places W n)) 0) e ∙ own-word W x small (bit map))
 
+  pub rank-given : (w : ℕ) {r : ℕ} → w < W → r ≡ wordOf (order W x) → rank w (places W r) < W
+  rank-given w h e = rw e (way-rank W x small w h)
+
   -- a touch outside the map, and inside
   pub untouched : (w : ℕ) → bit map w ≡ false → x ≡ touchOf W x map w
   unfolding touchOf touch touched written
   untouched w e = rw (t, e, eq-eqb (wordOf (order W x)) (wordOf (order W x)) refl)
 
   pub touch-given : (w : ℕ) {r n y : ℕ} → map < 2 ^ 16 → bit map w ≡ true → r ≡ wordOf (order W x)
-      → n ≡ ahead (w ∷ kept (others (eqb w)) (places W r)) 0 → y ≡ cond (eqb n r) x n → y ≡ touchOf W x map w
+      → n ≡ lifted w (rank w (places W r)) r → y ≡ cond (eqb n r) x n → y ≡ touchOf W x map w
   unfolding touchOf touch written
   touch-given w {r} {n} h e is f g =
       rw t (g ∙ ap₂ (λ (a b : ℕ). cond (eqb a b) x a) next is)
     where
       next : n ≡ wordOf (touched (bit map) w (order W x))
-      next = f ∙ ap (λ (k : ℕ). ahead (w ∷ kept (others (eqb w)) (places W k)) 0) is ∙ touched-word W x small (bit map) w e (way-lt W map w t h e)
+      next = f ∙ ap (λ (k : ℕ). lifted w (rank w (places W k)) k) is ∙ touched-word W x small (bit map) w e (way-lt W map w t h e)
 
   pub reset-given : {r n y : ℕ} → map < 2 ^ 16 → r ≡ wordOf (order W x)
       → n ≡ ahead (kept (others (bit map)) (places W r)) (ahead (kept (bit map) (fresh 16)) 0) → y ≡ cond (eqb n r) x n → y ≡ resetOf W x map

@@ -5,5 +5,6 @@ pub mod BeforeLaws
 pub mod LruLaws
 pub mod LoopLaws
 pub mod FallingLaws
+pub mod LiftLaws
 pub mod CallLaws
 pub mod WorkedCases

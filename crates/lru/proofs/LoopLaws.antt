@@ -34,7 +34,7 @@ next : (x j : ℕ) → x / 16 ^ j / 16 ≡ x / 16 ^ suc j
 next x j = div-div-eq-div-mul x (16 ^ j) 16 ∙ ap (λ (n : ℕ). x / n) (sym (pow-suc 16 j))
 
 -- the places from place j on are place j and those from the next one on
-places-from : (W x j : ℕ) → j < W → places (W - j) (x / 16 ^ j) ≡ x / 16 ^ j % 16 ∷ places (W - suc j) (x / 16 ^ suc j)
+pub places-from : (W x j : ℕ) → j < W → places (W - j) (x / 16 ^ j) ≡ x / 16 ^ j % 16 ∷ places (W - suc j) (x / 16 ^ suc j)
 unfolding places
 places-from W x j h = rw more (ap (λ (y : ℕ). x / 16 ^ j % 16 ∷ places (W - suc j) y) (next x j))
   where

@@ -8,6 +8,7 @@ use Rattle.waymap.specs.Bits.{Bits, digit, any}
 
 -- ---- Words and orders
 
+-- The ways, the most recent first.
 abbrev pub Order : Type 0
 Order = List ℕ
 

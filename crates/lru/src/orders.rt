@@ -1,13 +1,12 @@
 // Words that hold orders, of up to sixteen ways.
 ghost use mathlib.Core.Path.{_≡_};
 ghost use mathlib.Core.Bool.{not, cond};
-ghost use mathlib.Core.List.{_∷_};
-ghost use Prim.Native.Nat.{ℕ, _/_, _%_, _^_, _≤_, _<_};
+ghost use Prim.Native.Nat.{_/_, _%_, _^_, _<_};
 ghost use lib.Dec.{eqb};
 ghost use Rattle.waymap.specs.Bits.{bit};
 ghost use Rattle.waymap.specs.Ways.{Sized};
 ghost use Rattle.lru.specs.Lru.{places, wordOf, malformed, order, kept, others, last, fresh as freshOrder};
-ghost use Rattle.lru.specs.Inside.{ahead};
+ghost use Rattle.lru.specs.Inside.{ahead, rank, lifted};
 
 // The way at place k.
 fn at(word: u64, k: usize) -> usize
@@ -88,13 +87,39 @@ pub fn put_ahead(ways: usize, map: u16, order: u64, word: u64) -> u64
     out
 }
 
+// The place of a way that stands in an order.
+fn place_of(ways: usize, order: u64, way: usize) -> usize
+    requires { ⌜ Sized ways ⌝ }
+    requires { ⌜ rank way (places ways order) < ways ⌝ }
+    ensures { λ r. ⌜ r ≡ rank way (places ways order) ⌝ }
+{
+    let mut k = 0;
+    while at(order, k) != way {
+        k += 1;
+    }
+    k
+}
+
+// The order with the way that stands at place k brought to place 0.
+fn lift(order: u64, k: usize, way: usize) -> u64
+    requires { ⌜ k < 16 ⌝ }
+    requires { ⌜ way < 16 ⌝ }
+    ensures { λ r. ⌜ r ≡ lifted way k order ⌝ }
+{
+    let shift = 4 * k;
+    let newer = order % (1 << shift);
+    let older = (order >> shift) / 16 * 16;
+    (way as u64) + newer * 16 + (older << shift)
+}
+
 // The order with the way brought to place 0.
 pub fn touched(ways: usize, order: u64, way: usize) -> u64
     requires { ⌜ Sized ways ⌝ }
     requires { ⌜ way < 16 ⌝ }
-    ensures { λ r. ⌜ r ≡ ahead (way ∷ kept (others (eqb way)) (places ways order)) 0 ⌝ }
+    requires { ⌜ rank way (places ways order) < ways ⌝ }
+    ensures { λ r. ⌜ r ≡ lifted way (rank way (places ways order)) order ⌝ }
 {
-    (put_ahead(ways, !waymap::only(way), order, 0) << 4) + (way as u64)
+    lift(order, place_of(ways, order, way), way)
 }
 
 // The ways of a map, the highest the most recent.
