@@ -3,16 +3,15 @@ use mathlib.Core.Path.{_≡_, refl, sym, ap, _∙_}
 use mathlib.Core.Bool.{true, false, not, _&&_, and-true, and-false}
 use mathlib.Core.List.{[], _∷_, _++_}
 use Prim.Native.Nat.{ℕ, zero, suc, _+_, _-_, _*_, _%_, _^_, _≤_, _<_}
-use native.Mathlib.Nat.{zero-add, lt-of-le-of-lt}
+use native.Mathlib.Nat.{zero-add}
 use native.Mathlib.Omega.{arith}
 use lib.Dec.{eqb}
-use lib.Bits.{bitAnd, and-le-l}
-use borrow.Author.Tests.{eqb-true, eqb-false, ne-eqb}
+use lib.Bits.{bitAnd}
+use borrow.Author.Tests.{eqb-true, eqb-false}
 use Rattle.waymap.specs.Bits.{Bits, bit, lowest}
 use Rattle.waymap.proofs.Booleans.{cases}
 use Rattle.waymap.proofs.BitLaws.{bit-none}
-use Rattle.waymap.proofs.WayLaws.{any-bits, lowest-found, lowest-first}
-use Rattle.waymap.proofs.MapLaws.{without-lowest}
+use Rattle.waymap.proofs.LowestLaws.{lowest-lt, lowest-in, lowest-least, rest-bit, rest-lt}
 use Rattle.lru.specs.Lru.{Order, fresh, kept}
 use Rattle.lru.specs.Inside.{ahead}
 
@@ -67,34 +66,28 @@ pub record Falling (map left out : ℕ) : Type 0 where
 pub fall-begin : (map : ℕ) → map < 2 ^ 16 → Falling map map 0
 fall-begin map h = record { left-lt = h; is = refl }
 
-found : {map left out : ℕ} → Falling map left out → (left ≡ 0 → ⊥) → (lowest 16 (bit left) < 16) × (bit left (lowest 16 (bit left)) ≡ true)
-found {map} {left} f some = lowest-found 16 (bit left) (any-bits 16 left (f .left-lt) ∙ ap not (ne-eqb left 0 some))
-
-fall-way : {map left out way : ℕ} → Falling map left out → (left ≡ 0 → ⊥) → way ≡ lowest 16 (bit left) → way < 16
-fall-way f some low = rw low (found f some .0)
-
 -- one way more fits its word
 pub fall-fits : {map left out way : ℕ} → Falling map left out → (left ≡ 0 → ⊥) → way ≡ lowest 16 (bit left) → (out * 16) % 2 ^ 64 + way < 2 ^ 64
-fall-fits f some low = omega (arith, fall-way f some low)
+fall-fits f some low = omega (arith, lowest-lt 16 (f .left-lt) some low)
 
 pub fall-turned : {map left out way : ℕ} → Falling map left out → (left ≡ 0 → ⊥) → way ≡ lowest 16 (bit left)
     → Falling map (bitAnd left (left - 1)) ((out * 16) % 2 ^ 64 + way)
 unfolding ahead
 fall-turned {map} {left} {out} {way} f some low = record {
-  left-lt = lt-of-le-of-lt (and-le-l left (left - 1)) (f .left-lt);
+  left-lt = rest-lt 16 (f .left-lt) some low;
   is =
-      sym (ap (λ (o : Order). ahead o out) (lowest-last (bit left) 16 way (fall-way f some low) (rw low (found f some .1)) first)
+      sym (ap (λ (o : Order). ahead o out) lowest-out
       ∙ ahead-append (kept (λ (w : ℕ). bit left w && not (eqb way w)) (fresh 16)) (way ∷ []) out
       ∙ ap (λ (o : Order). ahead o ((out * 16) % 2 ^ 64 + way)) (sym rest))
       ∙ f .is;
 }
   where
-    first : (w : ℕ) → w < way → bit left w ≡ false
-    first w h = lowest-first 16 (bit left) w (rw (sym low) h)
+    lowest-out : kept (bit left) (fresh 16) ≡ kept (λ (w : ℕ). bit left w && not (eqb way w)) (fresh 16) ++ (way ∷ [])
+    lowest-out =
+        lowest-last (bit left) 16 way (lowest-lt 16 (f .left-lt) some low) (lowest-in 16 (f .left-lt) some low) (lowest-least 16 (f .left-lt) some low)
 
     rest : kept (bit (bitAnd left (left - 1))) (fresh 16) ≡ kept (λ (w : ℕ). bit left w && not (eqb way w)) (fresh 16)
-    rest =
-        kept-same _ _ 16 (λ w h. without-lowest 16 left w (omega (arith, some)) (f .left-lt) ∙ ap (λ (n : ℕ). bit left w && not (eqb n w)) (sym low))
+    rest = kept-same _ _ 16 (λ w h. rest-bit 16 (f .left-lt) some low w)
 
 pub fall-end : {map left out : ℕ} → Falling map left out → left ≡ 0 → out ≡ ahead (kept (bit map) (fresh 16)) 0
 unfolding ahead

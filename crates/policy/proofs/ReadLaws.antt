@@ -10,7 +10,7 @@ use Rattle.waymap.specs.Bits.{Bits, bit, word, reaches}
 use Rattle.waymap.proofs.Booleans.{and-left, and-right}
 use Rattle.waymap.proofs.BitLaws.{bit-and}
 use Rattle.waymap.proofs.WordLaws.{word-lt, bit-word, bit-word-in, from-bits, high-none}
-use Rattle.waymap.proofs.MapLaws.{reach-below}
+use Rattle.waymap.proofs.MapLaws.{cut-bit, reach-below}
 use Rattle.policy.specs.Policy.{asRead}
 use Rattle.policy.specs.declared.Maps.{Maps}
 
@@ -18,7 +18,7 @@ use Rattle.policy.specs.declared.Maps.{Maps}
 hit-is : (W hit : ℕ) {all : ℕ} → hit < 2 ^ 16 → all ≡ word 16 (λ (w : ℕ). ltb w W) → bitAnd hit all ≡ word 16 (λ (w : ℕ). bit hit w && ltb w W)
 hit-is W hit {all} h e =
     from-bits 16 (lt-of-le-of-lt (and-le-l hit all) h)
-    (λ i k. bit-and hit all i ∙ ap (λ (t : Bool). bit hit i && t) (ap (λ (x : ℕ). bit x i) e ∙ bit-word-in 16 (λ (w : ℕ). ltb w W) i k))
+    (λ i k. cut-bit 16 W hit i h e)
 
 pub read-is : (W hit fill : ℕ) {all : ℕ} → hit < 2 ^ 16 → fill < 2 ^ 16 → all ≡ word 16 (λ (w : ℕ). ltb w W)
     → record { hit = bitAnd hit all; fill = bitAnd fill (bitAnd hit all) } ≡ asRead W (record { hit = hit; fill = fill })

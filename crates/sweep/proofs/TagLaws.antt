@@ -3,19 +3,17 @@ use mathlib.Core.Path.{_≡_, refl, sym, ap, _∙_}
 use mathlib.Core.Bool.{Bool, true, false, cond, not, _&&_, and-true, and-false, false≢true}
 use mathlib.Core.List.{List, [], _∷_}
 use Prim.Native.Nat.{ℕ, zero, suc, _-_, _^_, _<_}
-use native.Mathlib.Nat.{lt-of-le-of-lt}
 use native.Mathlib.Omega.{arith}
 use lib.Dec.{eqb, ltb}
-use lib.Bits.{bitAnd, and-le-l}
+use lib.Bits.{bitAnd}
 use lib.ListN.{length, getD, set, length-set}
 use lib.Seq.{ext-getD, getD-set-same, getD-set-other}
-use borrow.Author.Tests.{eqb-true, eqb-false, ne-eqb, ltb-true, ltb-false}
-use Rattle.waymap.specs.Bits.{Bits, bit, any, lowest}
+use borrow.Author.Tests.{eqb-true, eqb-false, ltb-true, ltb-false}
+use Rattle.waymap.specs.Bits.{Bits, bit, lowest}
 use Rattle.waymap.proofs.Booleans.{cases, and-left}
 use Rattle.waymap.proofs.BitLaws.{bit-none}
 use Rattle.waymap.proofs.WordLaws.{bit-high}
-use Rattle.waymap.proofs.WayLaws.{any-bits, lowest-found}
-use Rattle.waymap.proofs.MapLaws.{without-lowest}
+use Rattle.waymap.proofs.LowestLaws.{lowest-in, rest-bit, rest-lt}
 use Rattle.sweep.specs.Clean.{wiped}
 
 pub wiped-length : (gone : Bits) (ts : List ℕ) → length (wiped gone ts) ≡ length ts
@@ -53,35 +51,27 @@ begin map old h k = record {
     and-not false = refl
 
 module _ {map : ℕ} {old new : List ℕ} {rest way : ℕ} (l : Wiping map old new rest) (some : rest ≡ 0 → ⊥) (low : way ≡ lowest 16 (bit rest)) where
-  found : (way < 16) × (bit rest way ≡ true)
-  found =
-      let any-way : any 16 (bit rest) ≡ true = any-bits 16 rest (l .rest-lt) ∙ ap not (ne-eqb rest 0 some) in
-      let f = lowest-found 16 (bit rest) any-way in
-      (rw low (f .0), rw low (f .1))
-
   -- the way is one of the tags'
   pub way-lt : way < length new
   way-lt =
       cases (ltb way (length new))
       (λ t. ltb-true way (length new) t)
       (λ t. absurd (false≢true
-      (sym (bit-high (length old) map way (l .within) (omega (arith, l .long, ltb-false way (length new) t))) ∙ l .part way (found .1))))
-
-  rest-is : (w : ℕ) → bit (bitAnd rest (rest - 1)) w ≡ (bit rest w && not (eqb way w))
-  rest-is w = without-lowest 16 rest w (omega (arith, some)) (l .rest-lt) ∙ ap (λ (n : ℕ). bit rest w && not (eqb n w)) (sym low)
+      (sym (bit-high (length old) map way (l .within) (omega (arith, l .long, ltb-false way (length new) t)))
+      ∙ l .part way (lowest-in 16 (l .rest-lt) some low))))
 
   pub turned : Wiping map old (set new way 0) (bitAnd rest (rest - 1))
   turned = record {
     long = length-set new way 0 ∙ l .long;
     small = l .small;
     within = l .within;
-    part = λ w e. l .part w (and-left (bit rest w) (not (eqb way w)) (sym (rest-is w) ∙ e));
-    rest-lt = lt-of-le-of-lt (and-le-l rest (rest - 1)) (l .rest-lt);
+    part = λ w e. l .part w (and-left (bit rest w) (not (eqb way w)) (sym (rest-bit 16 (l .rest-lt) some low w) ∙ e));
+    rest-lt = rest-lt 16 (l .rest-lt) some low;
     is = λ w.
-        rw (rest-is w)
+        rw (rest-bit 16 (l .rest-lt) some low w)
         (cases (eqb way w)
         (λ t. let same : way ≡ w = eqb-true way w t in
-        rw (t, and-false (bit rest w), ← same, l .part way (found .1)) (getD-set-same new way 0 0 way-lt))
+        rw (t, and-false (bit rest w), ← same, l .part way (lowest-in 16 (l .rest-lt) some low)) (getD-set-same new way 0 0 way-lt))
         (λ t. rw (t, and-true (bit rest w)) (getD-set-other new way w 0 0 (λ e. eqb-false way w t (sym e)) ∙ l .is w)));
   }
 

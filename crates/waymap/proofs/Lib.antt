@@ -4,4 +4,6 @@ pub mod BitLaws
 pub mod WordLaws
 pub mod WayLaws
 pub mod MapLaws
+pub mod LowestLaws
+pub mod MemberLaws
 pub mod NumberLaws

@@ -1,18 +1,18 @@
 -- The maps of one way and of the first ways, and maps that reach a number of ways, for every width.
-use mathlib.Core.Path.{_≡_, sym, ap, ap₂, _∙_}
-use mathlib.Core.Bool.{Bool, true, false, cond, not, _&&_, _||_, and-self, and-true, and-false, and-or-distrib-right, false≢true}
-use Prim.Native.Nat.{ℕ, zero, suc, _-_, _*_, _/_, _%_, _^_, _≤_, _<_}
-use native.Mathlib.Nat.{pow-suc, one-mul, div-eq-of-lt, div-lt-iff-lt-mul, lt-of-le-of-lt, lt-of-lt-of-le}
+use mathlib.Core.Path.{_≡_, sym, ap, _∙_}
+use mathlib.Core.Bool.{Bool, true, false, not, _&&_, _||_, and-true, and-false, and-or-distrib-right, false≢true}
+use Prim.Native.Nat.{ℕ, _-_, _*_, _/_, _%_, _^_, _≤_, _<_}
+use native.Mathlib.Nat.{one-mul, div-eq-of-lt, div-lt-iff-lt-mul, lt-of-le-of-lt, lt-of-lt-of-le}
 use native.Mathlib.Omega.{arith}
 use lib.Dec.{eqb, leb, ltb}
 use lib.Bits.{bitAnd, bitOr, and-le-l, or-lt}
 use lib.Pow.{pow-pos, pow-lt, shl-exact}
-use borrow.Author.Tests.{eqb-true, eqb-false, ne-eqb, eq-eqb, lt-ltb, ltb-true, ltb-false, le-leb, leb-true}
-use Rattle.waymap.specs.Bits.{bit, digit, word, any, lowest, put, reaches}
+use borrow.Author.Tests.{eqb-true, ne-eqb, eq-eqb, lt-ltb, ltb-true, ltb-false, le-leb, leb-true}
+use Rattle.waymap.specs.Bits.{bit, word, any, put, reaches}
 use Rattle.waymap.proofs.Booleans.{cases, cleared, raised}
-use Rattle.waymap.proofs.BitLaws.{bit-zero, bit-suc, digit-bit, bit-none, bit-pow, bit-ones, bit-and, bit-or, bit-not}
-use Rattle.waymap.proofs.WordLaws.{word-lt, bit-word-in, from-bits, bit-high, high-none}
-use Rattle.waymap.proofs.WayLaws.{any-none, none-at, any-ext, any-or, lowest-ext}
+use Rattle.waymap.proofs.BitLaws.{bit-none, bit-pow, bit-ones, bit-and, bit-or, bit-not}
+use Rattle.waymap.proofs.WordLaws.{word-lt, bit-word, bit-word-in, from-bits, bit-high, high-none}
+use Rattle.waymap.proofs.WayLaws.{any-none, none-at, any-ext, any-or}
 
 -- ---- one way, and the first ways
 
@@ -33,6 +33,13 @@ first-ways n ways h =
 pub every-way : (n ways : ℕ) → n ≤ ways → 2 ^ n - 1 ≡ word n (λ (w : ℕ). ltb w ways)
 every-way n ways h =
     from-bits n (omega (arith, pow-pos n)) (λ i k. bit-ones n i ∙ lt-ltb i n k ∙ sym (lt-ltb i ways (lt-of-lt-of-le k h)))
+
+-- a map cut to the first ways
+pub cut-bit : (n ways map i : ℕ) {all : ℕ} → map < 2 ^ n → all ≡ word n (λ (w : ℕ). ltb w ways) → bit (bitAnd map all) i ≡ (bit map i && ltb i ways)
+cut-bit n ways map i {all} h e =
+    bit-and map all i
+    ∙ ap (λ (t : Bool). bit map i && t) (ap (λ (x : ℕ). bit x i) e ∙ bit-word n (λ (w : ℕ). ltb w ways) i)
+    ∙ cases (ltb i n) (λ t. rw t) (λ t. rw (bit-high n map i h (ltb-false i n t)))
 
 -- joining one way to a map, and taking it out
 pub put-in : (way map : ℕ) {one : ℕ} → map < 2 ^ 16 → one ≡ word 16 (λ (w : ℕ). eqb way w) → bitOr map one ≡ put way true map
@@ -93,45 +100,3 @@ unfolding reaches
 reach-or ways a b =
     any-ext 16 (λ i k. ap (λ (t : Bool). t && leb ways i) (bit-or a b i) ∙ and-or-distrib-right (bit a i) (bit b i) (leb ways i))
     ∙ any-or 16 (λ (i : ℕ). bit a i && leb ways i) (λ (i : ℕ). bit b i && leb ways i)
-
--- ---- the lowest way, taken out
-
--- one more on both sides
-eqb-suc : (a b : ℕ) → eqb (suc a) (suc b) ≡ eqb a b
-eqb-suc a b = cases (eqb a b)
-    (λ t. rw t (eq-eqb (suc a) (suc b) (ap suc (eqb-true a b t))))
-    (λ t. rw t (ne-eqb (suc a) (suc b) (λ e. eqb-false a b t (omega arith))))
-
--- A map and the number below it have in common all but its lowest way.
-pub without-lowest : (n x i : ℕ) → 0 < x → x < 2 ^ n → bit (bitAnd x (x - 1)) i ≡ (bit x i && not (eqb (lowest n (bit x)) i))
-unfolding lowest
-without-lowest zero x i pos h = absurd (omega arith)
-without-lowest (suc n) x i pos h = bit-and x (x - 1) i ∙ cases (bit x 0) (λ t. odd t i)
-    (λ t. even t (λ j k l. without-lowest n (x / 2) j k l) i)
-  where
-    -- the lowest way is 0: the number below has the others
-    odd : bit x 0 ≡ true → (j : ℕ) → (bit x j && bit (x - 1) j) ≡ (bit x j && not (eqb (cond (bit x 0) 0 (suc (lowest n (λ (k : ℕ). bit x (suc k))))) j))
-    odd t zero =
-        let one : x % 2 ≡ 1 = digit-bit x ∙ ap digit t in
-        let none : bit (x - 1) 0 ≡ false = bit-zero (x - 1) ∙ ne-eqb ((x - 1) % 2) 1 (λ e. omega arith) in
-        rw (t, none)
-    odd t (suc j) =
-        let one : x % 2 ≡ 1 = digit-bit x ∙ ap digit t in
-        let half : (x - 1) / 2 ≡ x / 2 = omega arith in
-        let same : bit (x - 1) (suc j) ≡ bit x (suc j) = bit-suc (x - 1) j ∙ ap (λ (y : ℕ). bit y j) half ∙ sym (bit-suc x j) in
-        rw (same, t, ne-eqb 0 (suc j) (λ e. omega arith)) (and-self (bit x (suc j)) ∙ sym (and-true (bit x (suc j))))
-
-    -- it is not: the same of the halves
-    even : bit x 0 ≡ false
-        → ((j : ℕ) → 0 < x / 2 → x / 2 < 2 ^ n → bit (bitAnd (x / 2) (x / 2 - 1)) j ≡ (bit (x / 2) j && not (eqb (lowest n (bit (x / 2))) j)))
-        → (j : ℕ) → (bit x j && bit (x - 1) j) ≡ (bit x j && not (eqb (cond (bit x 0) 0 (suc (lowest n (λ (k : ℕ). bit x (suc k))))) j))
-    even f halves zero = rw f
-    even f halves (suc j) =
-        let none : x % 2 ≡ 0 = digit-bit x ∙ ap digit f in
-        let half : (x - 1) / 2 ≡ x / 2 - 1 = omega arith in
-        let low : lowest n (bit (x / 2)) ≡ lowest n (λ (k : ℕ). bit x (suc k)) = lowest-ext n (λ k l. sym (bit-suc x k)) in
-        ap₂ _&&_ (bit-suc x j) (bit-suc (x - 1) j ∙ ap (λ (y : ℕ). bit y j) half)
-        ∙ sym (bit-and (x / 2) (x / 2 - 1) j)
-        ∙ halves j (omega arith) (omega (arith, pow-suc 2 n))
-        ∙ ap₂ (λ (b : Bool) (l : ℕ). b && not (eqb l j)) (sym (bit-suc x j)) low
-        ∙ rw (f, eqb-suc (lowest n (λ (k : ℕ). bit x (suc k))) j)

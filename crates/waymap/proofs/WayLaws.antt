@@ -129,6 +129,16 @@ lowest-none zero p none = refl
 lowest-none (suc n) p none =
     rw (none 0 (suc-le-suc zero-le)) (ap suc (lowest-none n (λ (j : ℕ). p (suc j)) (λ k l. none (suc k) (suc-le-suc l))))
 
+-- what a second test says above the lowest does not matter to it
+pub lowest-same : (n : ℕ) (p q : Bits) → ((i : ℕ) → i < n → i ≤ lowest n p → q i ≡ p i) → lowest n q ≡ lowest n p
+lowest-same n p q e =
+    cases (any n p)
+    (λ t. let f : (lowest n p < n) × (p (lowest n p) ≡ true) = lowest-found n p t in
+    lowest-is n q (lowest n p) (f .0) (λ k l. e k (omega (arith, f .0)) (omega arith) ∙ lowest-first n p k l)
+    (e (lowest n p) (f .0) (omega arith) ∙ f .1))
+    (λ t. let end : lowest n p ≡ n = lowest-none n p (λ k l. none-at n p k t l) in
+    lowest-ext n (λ i l. e i l (omega arith)))
+
 -- some way passes if and only if there is a lowest
 pub any-lowest : (n : ℕ) (p : Bits) → any n p ≡ ltb (lowest n p) n
 any-lowest n p =

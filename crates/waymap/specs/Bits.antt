@@ -1,5 +1,6 @@
 -- Maps of ways and machine words as rows of bits.
 use mathlib.Core.Bool.{Bool, true, false, cond, _&&_, _||_}
+use mathlib.Core.List.{List, [], _∷_, _++_}
 use Prim.Native.Nat.{ℕ, zero, suc, _+_, _*_, _/_, _%_, _^_}
 use lib.Dec.{eqb, leb}
 
@@ -35,6 +36,11 @@ lowest (suc n) p = cond (p 0) 0 (suc (lowest n (λ i. p (suc i))))
 unfoldable pub count : ℕ → Bits → ℕ
 count zero p = 0
 count (suc n) p = digit (p 0) + count n (λ i. p (suc i))
+
+-- The places below n that pass the test, the lowest first.
+unfoldable pub members : ℕ → Bits → List ℕ
+members zero p = []
+members (suc n) p = members n p ++ cond (p n) (n ∷ []) []
 
 -- A map with way w made a member or not; its other ways stay.
 unfoldable pub put : ℕ → Bool → ℕ → ℕ
