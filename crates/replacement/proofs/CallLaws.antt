@@ -8,7 +8,7 @@ use lib.Dec.{ltb}
 use lib.Bits.{bitOr}
 use borrow.Author.Tests.{ne-eqb, ltb-true, lt-ltb}
 use Rattle.waymap.specs.Bits.{bit, word, any, reaches}
-use Rattle.waymap.specs.Ways.{isWays, takes, Sized}
+use Rattle.waymap.specs.Ways.{isWays, Sized}
 use Rattle.waymap.proofs.Booleans.{and-left, and-right, or-none}
 use Rattle.waymap.proofs.WayLaws.{any-bits, any-wider}
 use Rattle.waymap.proofs.WordLaws.{bit-high}
@@ -95,27 +95,24 @@ module _ (W rule a b : ℕ) (limits : inLimits W rule ≡ true) (reach : reaches
 -- ---- Tree-PLRU
 
 module _ (W : ℕ) (w : isWays W ≡ true) where
-  tree-takes : (map : ℕ) → reaches W map ≡ false → takes W map ≡ true
-  tree-takes map r = NumberLaws.takes-both W map w r
-
   pub tree-victim : (x map : ℕ) → reaches W map ≡ false → Tree.victimOf W x map ≡ tree W .victim map x
   unfolding Tree.victimOf
-  tree-victim x map r = rw (tree-takes map r)
+  tree-victim x map r = rw (NumberLaws.takes-both W map w r)
 
   pub tree-touch : (x map way : ℕ) → reaches W map ≡ false → way < W → Tree.touchOf W x map way ≡ tree W .touch map way x
   unfolding Tree.touchOf
-  tree-touch x map way r h = rw (tree-takes map r, lt-ltb way W h)
+  tree-touch x map way r h = rw (NumberLaws.takes-both W map w r, lt-ltb way W h)
 
   pub tree-own : (x map : ℕ) → reaches W map ≡ false → Tree.ownOf W x map ≡ tree W .part map x
   unfolding Tree.ownOf
-  tree-own x map r = rw (tree-takes map r)
+  tree-own x map r = rw (NumberLaws.takes-both W map w r)
 
   pub tree-shares : (a b : ℕ) → reaches W (bitOr a b) ≡ false → Tree.sharesOf W a b ≡ tree W .shares a b
   unfolding Tree.sharesOf
-  tree-shares a b r = rw (tree-takes a (neither W a b r .0), tree-takes b (neither W a b r .1))
+  tree-shares a b r = rw (NumberLaws.takes-both W a w (neither W a b r .0), NumberLaws.takes-both W b w (neither W a b r .1))
 
   pub tree-reset : (x a b : ℕ) → reaches W a ≡ false → reaches W b ≡ false → Tree.resetOf x (Tree.changeOf W a b) ≡ tree W .reset a b x
-  tree-reset x a b r q = TreeLaws.change-resets W a b x (tree-takes a r) (tree-takes b q)
+  tree-reset x a b r q = TreeLaws.change-resets W a b x (NumberLaws.takes-both W a w r) (NumberLaws.takes-both W b w q)
 
 -- ---- NRU
 
@@ -133,20 +130,17 @@ module _ (W : ℕ) (w : isWays W ≡ true) where
 -- ---- true LRU
 
 module _ (W : ℕ) (w : isWays W ≡ true) where
-  lru-takes : (map : ℕ) → reaches W map ≡ false → takes W map ≡ true
-  lru-takes map r = NumberLaws.takes-both W map w r
-
   pub lru-victim : (x map : ℕ) → reaches W map ≡ false → Lru.victimOf W x map ≡ lru W .victim map x
   unfolding Lru.victimOf
-  lru-victim x map r = rw (lru-takes map r)
+  lru-victim x map r = rw (NumberLaws.takes-both W map w r)
 
   pub lru-touch : (x map way : ℕ) → reaches W map ≡ false → Lru.touchOf W x map way ≡ lru W .touch map way x
   unfolding Lru.touchOf
-  lru-touch x map way r = rw (lru-takes map r)
+  lru-touch x map way r = rw (NumberLaws.takes-both W map w r)
 
   pub lru-own : (x map : ℕ) → reaches W map ≡ false → Lru.ownOf W x map ≡ lru W .part map x
   unfolding Lru.ownOf
-  lru-own x map r = rw (lru-takes map r)
+  lru-own x map r = rw (NumberLaws.takes-both W map w r)
 
   pub lru-fresh : Lru.freshOf W ≡ lru W .fresh
   unfolding Lru.freshOf

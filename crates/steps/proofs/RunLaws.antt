@@ -123,25 +123,28 @@ module _ (g : Geometry) (limits : within g ≡ true) where
     unfolding setOf
     inside = mod-lt (arg / 64) (l .some-set)
 
+    -- what an access or a flush does to its set, whose row stays as long
+    abbrev pub worked : Bool → Bool → Effect
+    worked flushes store =
+        lineWork flushes (ruleOf (g .rule) (g .ways)) store (policies (g .ways) (s .domains) e) (tagOf g arg) (rowAt (g .ways) (setOf g arg) (s .tables))
+
+    pub worked-long : (flushes store : Bool) → length (worked flushes store .row .tags) ≡ g .ways
+    worked-long flushes store =
+        work-long flushes store (ruleOf (g .rule) (g .ways)) (policies (g .ways) (s .domains) e) (tagOf g arg)
+        (rowAt (g .ways) (setOf g arg) (s .tables))
+        ∙ row-long g (kept .whole .shaped) (setOf g arg) inside
+
     pub line-kept : (flushes store : Bool) → Kept (useLine g (lineWork flushes (ruleOf (g .rule) (g .ways)) store) e arg s .state)
     unfolding useLine rowEffect
-    line-kept flushes store = record {
-      whole = line-whole g s (kept .whole) e k (setOf g arg) inside x long;
-      as-stored = λ f.
-          same-maps (domainOf (onSet g e (setOf g arg) x s .state .domains) f) (domainOf (s .domains) f)
-          (line-maps g s (kept .whole) e k (setOf g arg) inside x long f) (kept .as-stored f);
-    }
-      where
-        x : Effect
-        x =
-            lineWork flushes (ruleOf (g .rule) (g .ways)) store (policies (g .ways) (s .domains) e) (tagOf g arg)
-            (rowAt (g .ways) (setOf g arg) (s .tables))
-
-        long : length (x .row .tags) ≡ g .ways
-        long =
-            work-long flushes store (ruleOf (g .rule) (g .ways)) (policies (g .ways) (s .domains) e) (tagOf g arg)
-            (rowAt (g .ways) (setOf g arg) (s .tables))
-            ∙ row-long g (kept .whole .shaped) (setOf g arg) inside
+    line-kept flushes store =
+        let x = worked flushes store in
+        let long = worked-long flushes store in
+        record {
+          whole = line-whole g s (kept .whole) e k (setOf g arg) inside x long;
+          as-stored = λ f.
+              same-maps (domainOf (onSet g e (setOf g arg) x s .state .domains) f) (domainOf (s .domains) f)
+              (line-maps g s (kept .whole) e k (setOf g arg) inside x long f) (kept .as-stored f);
+        }
 
     pub change-kept : policyRefusal g (policies (g .ways) (s .domains)) e arg ≡ 0 → Kept (changePolicy g e arg s .state)
     unfolding newDomain

@@ -1,5 +1,5 @@
 -- What a rule keeps true of a word is true of every word in a run from a fresh cache.
-use mathlib.Core.Path.{_≡_, sym, subst, _∙_}
+use mathlib.Core.Path.{_≡_, sym, subst}
 use mathlib.Core.Bool.{Bool, true, false}
 use mathlib.Core.List.{List}
 use Prim.Native.Nat.{ℕ, _<_}
@@ -23,9 +23,8 @@ use Rattle.steps.specs.Step.{State, rowEffect, useLine, changePolicy}
 use Rattle.steps.specs.Run.{finally}
 use Rattle.steps.specs.Fresh.{freshTables, fresh}
 use Rattle.steps.specs.Inside.{lineWork}
-use Rattle.steps.proofs.SetLaws.{row-long}
-use Rattle.steps.proofs.StateLaws.{work-long, line-row, line-row-other, changed-row}
-use Rattle.steps.proofs.RunLaws.{run-lasts, Kept, fresh-kept, line-kept, change-kept, inside}
+use Rattle.steps.proofs.StateLaws.{line-row, line-row-other, changed-row}
+use Rattle.steps.proofs.RunLaws.{run-lasts, Kept, fresh-kept, worked, worked-long, line-kept, change-kept, inside}
 
 -- What a fresh word has, and every word that the rule makes of one that has it.
 pub record Lasting (R : Rule) (P : ℕ → Type 0) : Type 0 where
@@ -79,15 +78,10 @@ module _ (g : Geometry) (limits : within g ≡ true) (P : ℕ → Type 0) (lasti
       in-range = inside g limits s (q .kept) e k arg
 
       x : Effect
-      x =
-          lineWork flushes (ruleOf (g .rule) (g .ways)) store (policies (g .ways) (s .domains) e) (tagOf g arg)
-          (rowAt (g .ways) (setOf g arg) (s .tables))
+      x = worked g limits s (q .kept) e k arg flushes store
 
       long : length (x .row .tags) ≡ g .ways
-      long =
-          work-long flushes store (ruleOf (g .rule) (g .ways)) (policies (g .ways) (s .domains) e) (tagOf g arg)
-          (rowAt (g .ways) (setOf g arg) (s .tables))
-          ∙ row-long g (q .kept .whole .shaped) (setOf g arg) in-range
+      long = worked-long g limits s (q .kept) e k arg flushes store
 
   change-words : (s : State) → Words s → (e : ℕ) → e < 16 → (arg : ℕ) → policyRefusal g (policies (g .ways) (s .domains)) e arg ≡ 0
       → Words (changePolicy g e arg s .state)
