@@ -1,5 +1,5 @@
 -- The worked cases in one list. First cases B to I of document 01 and step 5 of its case A: what the rules give, and what document 01
--- prints. Then those of document 02's job 1, and our own cases on lent states: what the rules give, and what was worked out by hand.
+-- prints. Then those of document 02's jobs 1 and 2, and our own cases on lent states: what the rules give, and what was worked out by hand.
 use mathlib.Core.Bool.{Bool, cond}
 use mathlib.Core.List.{List, [], _∷_, _++_, map}
 use Prim.Native.Nat.{ℕ, _+_, _*_}
@@ -13,6 +13,7 @@ use Rattle.steps.specs.Run.{answersOf}
 use Rattle.steps.specs.Fresh.{fresh}
 use Rattle.cases.specs.Case.{Case}
 use Rattle.cases.specs.Orders.{orders}
+use Rattle.cases.specs.Visits.{visited}
 use Rattle.cases.specs.Lent.{lent}
 
 -- A bit as a number.
@@ -62,5 +63,5 @@ cases u =
     ∷ record { given = freeNodes 1 ∷ []; printed = 0 ∷ [] }
     -- I: "NRU, map 6, word 0: victim way 1; after its touch bits 1 and 2 are 0 and 1"
     ∷ record { given = nru 8 .victim 6 0 ∷ nru 8 .touch 6 1 (nru 8 .before 6 0) ∷ []; printed = 1 ∷ 4 ∷ [] }
-    -- job 1's, and our own
-    ∷ (orders ++ lent)
+    -- job 1's, job 2's, and our own
+    ∷ (orders ++ (visited ++ lent))

@@ -5,4 +5,5 @@ pub mod LineUnwinding
 pub mod PolicyUnwinding
 pub mod Unwinding
 pub mod Isolation
+pub mod Lookups
 pub mod Witness

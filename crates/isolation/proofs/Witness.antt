@@ -14,6 +14,7 @@ use Rattle.command.specs.Command.{Command}
 use Rattle.steps.specs.Run.{answersOf, finally}
 use Rattle.steps.specs.Fresh.{fresh}
 use Rattle.purge.specs.Purge.{keeps, purge}
+use Rattle.isolation.specs.Lookups.{visitedAt}
 use Rattle.isolation.specs.StruckOut.{answersTo, ownAnswers, numberOf, verdicts}
 use Rattle.steps.proofs.Computing.{computing, does, both}
 
@@ -79,12 +80,18 @@ abbrev turns : List Command
 turns =
     does 0 16 (both 3) ∷ does 1 16 (both 12) ∷ does 0 2 0 ∷ does 1 2 0 ∷ does 0 1 64 ∷ does 1 1 64 ∷ does 0 1 128 ∷ does 1 1 128 ∷ does 1 1 64 ∷ []
 
--- the two runs' words at the end
+-- the two runs' ends, and the words there
+abbrev turned : State
+turned = finally ordered turns (fresh ordered)
+
+abbrev turnedStruck : State
+turnedStruck = finally ordered (purge 0 turns) (fresh ordered)
+
 abbrev wholeWord : ℕ
-wholeWord = rowAt 4 0 (finally ordered turns (fresh ordered) .tables) .word
+wholeWord = rowAt 4 0 (turned .tables) .word
 
 abbrev struckWord : ℕ
-struckWord = rowAt 4 0 (finally ordered (purge 0 turns) (fresh ordered) .tables) .word
+struckWord = rowAt 4 0 (turnedStruck .tables) .word
 
 -- The order is 3, 2, 0, 1 in one run and 0, 1, 3, 2 in the other: each place holds another way, and of way 0 and the neighbour's way 3 another is
 -- the more recent. Of ways 0 and 1 it is way 0 in both, and the domain's own part is 0, 1. Its answers are the same: it has filled both its
@@ -97,6 +104,14 @@ record OtherOrder : Type 0 where
   own-part : (lru 4 .part 3 wholeWord ≡ 0x10) × (lru 4 .part 3 struckWord ≡ 0x10)
   works : ownAnswers ordered 0 turns (fresh ordered) ≡ (6 ∷ 0 ∷ 0 ∷ []) ∷ (1 ∷ 0 ∷ []) ∷ (1 ∷ 1 ∷ []) ∷ (2 ∷ 0 ∷ 0 ∷ 1 ∷ []) ∷ []
   works-struck : ownAnswers ordered 0 (purge 0 turns) (fresh ordered) ≡ (6 ∷ 0 ∷ 0 ∷ []) ∷ (1 ∷ 0 ∷ []) ∷ (1 ∷ 1 ∷ []) ∷ (2 ∷ 0 ∷ 0 ∷ 1 ∷ []) ∷ []
+
+-- ---- lookups: how many ways they visit depends on accesses, and the domain's not on its neighbour's
+
+-- Domain 0 has line 2 in way 0 and line 1 in way 1 in both runs. The neighbour's line 2 is in its way 2 in one run and nowhere in the other.
+record OtherLookups : Type 0 where
+  first : (visitedAt ordered 0 128 turned ≡ 1) × (visitedAt ordered 0 128 turnedStruck ≡ 1)
+  second : (visitedAt ordered 0 64 turned ≡ 2) × (visitedAt ordered 0 64 turnedStruck ≡ 2)
+  neighbour : (visitedAt ordered 1 128 turned ≡ 1) × (visitedAt ordered 1 128 turnedStruck ≡ 2)
 
 -- ---- the verdicts on a neighbour
 
@@ -112,8 +127,8 @@ record Verdicts : Type 0 where
 -- ---- both runs, computed
 
 -- each of these holds by the definitions alone
-computed : NotEmpty × OtherWays × OtherBits × OtherDrops × Verdicts × OtherOrder
-unfolding answersTo ownAnswers verdicts numberOf purge keeps computing
+computed : NotEmpty × OtherWays × OtherBits × OtherDrops × Verdicts × OtherOrder × OtherLookups
+unfolding visitedAt answersTo ownAnswers verdicts numberOf purge keeps computing
 computed = (
   record { dropped = (refl, refl); works = refl; neighbour = refl; neighbour-struck = refl; handed-over = refl },
   record { run = refl; purged = refl },
@@ -121,6 +136,7 @@ computed = (
   record { run = refl; purged = refl },
   record { run = refl; own = refl },
   record { run = refl; purged = refl; pair = (refl, refl); own-pair = (refl, refl); own-part = (refl, refl); works = refl; works-struck = refl },
+  record { first = (refl, refl); second = (refl, refl); neighbour = (refl, refl) },
 )
 
 not-empty : NotEmpty
@@ -140,3 +156,6 @@ verdicts-differ = computed .4
 
 orders-differ : OtherOrder
 orders-differ = computed .5
+
+lookups-differ : OtherLookups
+lookups-differ = computed .6

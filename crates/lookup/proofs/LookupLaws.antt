@@ -1,23 +1,17 @@
--- The hit lookup as a search, and what its way says.
-use mathlib.Core.Path.{_≡_, ap, _∙_}
-use mathlib.Core.Bool.{Bool, true, false, _&&_}
-use mathlib.Core.List.{List}
+-- What a hit lookup says of the way that it hits, and of those that it visits.
+use mathlib.Core.Path.{_≡_, sym, ap, ap₂, _∙_}
+use mathlib.Core.Bool.{true, false, _&&_, and-true}
+use mathlib.Core.List.{List, [], _∷_, _++_, List·Mem}
 use Prim.Native.Nat.{ℕ, _≤_, _<_}
-use lib.Dec.{eqb}
-use lib.Bits.{bitAnd}
+use native.Mathlib.Omega.{arith}
+use lib.Dec.{eqb, leb, ltb}
 use lib.ListN.{length, getD}
-use borrow.Author.Tests.{lt-ltb, le-ltb}
-use Rattle.waymap.specs.Bits.{bit, any, lowest}
-use Rattle.waymap.proofs.Booleans.{and-left}
-use Rattle.waymap.proofs.BitLaws.{bit-and}
-use Rattle.waymap.proofs.WayLaws.{any-ext, any-lowest, lowest-ext, lowest-found}
-use Rattle.lookup.specs.Lookup.{matches, isHit, hitWay}
-
--- a search among the valid ways of the hit map is the lookup
-pub search-is : (tags : List ℕ) (valid hit tag : ℕ)
-    → lowest (length tags) (λ (w : ℕ). bit (bitAnd hit valid) w && eqb (getD tags w 0) tag) ≡ hitWay tags valid hit tag
-unfolding hitWay matches
-search-is tags valid hit tag = lowest-ext (length tags) (λ i h. ap (λ (t : Bool). t && eqb (getD tags i 0) tag) (bit-and hit valid i))
+use borrow.Author.Tests.{lt-ltb, le-ltb, le-leb}
+use Rattle.waymap.specs.Bits.{bit, lowest, members}
+use Rattle.waymap.proofs.Booleans.{cases, and-left}
+use Rattle.waymap.proofs.WayLaws.{any-lowest, none-at, lowest-found, lowest-none, lowest-same}
+use Rattle.waymap.proofs.MemberLaws.{members-ext, members-up-to, members-at}
+use Rattle.lookup.specs.Lookup.{matches, isHit, hitWay, visits, SameVisited, SameFound}
 
 module _ (tags : List ℕ) (valid hit tag : ℕ) where
   -- it hits where it finds a way
@@ -31,6 +25,15 @@ module _ (tags : List ℕ) (valid hit tag : ℕ) where
   miss-above h =
       any-lowest (length tags) (matches tags valid hit tag) ∙ le-ltb (lowest (length tags) (matches tags valid hit tag)) (length tags) h
 
+  -- where the way is that it hits, and where it is counted to be where there is none
+  hit-lt : isHit tags valid hit tag ≡ true → hitWay tags valid hit tag < length tags
+  unfolding isHit hitWay
+  hit-lt e = lowest-found (length tags) (matches tags valid hit tag) e .0
+
+  miss-way : isHit tags valid hit tag ≡ false → hitWay tags valid hit tag ≡ length tags
+  unfolding isHit hitWay
+  miss-way e = lowest-none (length tags) (matches tags valid hit tag) (λ w h. none-at (length tags) (matches tags valid hit tag) w e h)
+
   -- the way that it hits is in the hit map
   pub hit-own : isHit tags valid hit tag ≡ true → bit hit (hitWay tags valid hit tag) ≡ true
   unfolding isHit hitWay matches
@@ -39,13 +42,42 @@ module _ (tags : List ℕ) (valid hit tag : ℕ) where
       and-left (bit hit w) (bit valid w)
       (and-left (bit hit w && bit valid w) (eqb (getD tags w 0) tag) (lowest-found (length tags) (matches tags valid hit tag) e .1))
 
--- Two sets that match in the same ways are hit alike.
-module _ (ts us : List ℕ) (valid other hit tag : ℕ) (long : length ts ≡ length us)
-    (same : (w : ℕ) → matches ts valid hit tag w ≡ matches us other hit tag w) where
-  pub hit-same : isHit ts valid hit tag ≡ isHit us other hit tag
-  unfolding isHit
-  hit-same = ap (λ (n : ℕ). any n (matches ts valid hit tag)) long ∙ any-ext (length us) (λ w h. same w)
+  -- ---- the ways visited: with a hit, the hit map's ways below it, and then it
 
-  pub way-same : hitWay ts valid hit tag ≡ hitWay us other hit tag
-  unfolding hitWay
-  way-same = ap (λ (n : ℕ). lowest n (matches ts valid hit tag)) long ∙ lowest-ext (length us) (λ w h. same w)
+  pub visits-hit : isHit tags valid hit tag ≡ true
+      → visits tags valid hit tag ≡ members (hitWay tags valid hit tag) (bit hit) ++ (hitWay tags valid hit tag ∷ [])
+  unfolding visits
+  visits-hit e = members-up-to (length tags) (hitWay tags valid hit tag) (bit hit) (hit-lt e) (hit-own e)
+
+  -- without one, all of them
+  pub visits-miss : isHit tags valid hit tag ≡ false → visits tags valid hit tag ≡ members (length tags) (bit hit)
+  unfolding visits
+  visits-miss e =
+      members-ext (length tags) (λ w h. rw (le-leb w (hitWay tags valid hit tag) (omega (arith, miss-way e))) (and-true (bit hit w)))
+
+-- Of two sets that match alike up to the way that is hit, a lookup says the same.
+pub found-same : (ts us : List ℕ) (valid other hit tag : ℕ) → length us ≡ length ts
+    → ((w : ℕ) → w < length ts → w ≤ hitWay ts valid hit tag → matches us other hit tag w ≡ matches ts valid hit tag w)
+    → SameFound ts us valid other hit tag
+unfolding isHit hitWay visits
+found-same ts us valid other hit tag long alike = record {
+  same-hit = any-lowest (length us) (matches us other hit tag) ∙ ap₂ ltb same long ∙ sym (any-lowest (length ts) (matches ts valid hit tag));
+  same-way = same;
+  same-visits = ap₂ (λ (n h : ℕ). members n (λ (w : ℕ). bit hit w && leb w h)) long same;
+}
+  where
+    same : lowest (length us) (matches us other hit tag) ≡ lowest (length ts) (matches ts valid hit tag)
+    same = ap (λ (n : ℕ). lowest n (matches us other hit tag)) long ∙ lowest-same (length ts) _ _ alike
+
+-- So it does of two sets that are alike in the ways visited.
+pub unread : {ts us : List ℕ} {valid other hit tag : ℕ} → SameVisited ts us valid other hit tag → SameFound ts us valid other hit tag
+unfolding matches visits
+unread {ts} {us} {valid} {other} {hit} {tag} s = found-same ts us valid other hit tag (s .as-long) alike
+  where
+    alike : (w : ℕ) → w < length ts → w ≤ hitWay ts valid hit tag → matches us other hit tag w ≡ matches ts valid hit tag w
+    alike w k l =
+        cases (bit hit w)
+        (λ t. let seen : List·Mem w (visits ts valid hit tag) =
+        members-at (length ts) (λ (v : ℕ). bit hit v && leb v (hitWay ts valid hit tag)) w k (rw (t, le-leb w (hitWay ts valid hit tag) l)) in
+        rw (s .same-valid w seen, s .same-tag w seen))
+        (λ t. rw t)

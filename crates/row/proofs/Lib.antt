@@ -2,4 +2,5 @@
 pub mod RuleLaws
 pub mod WorkLaws
 pub mod LineLaws
+pub mod LookLaws
 pub mod ToldLaws

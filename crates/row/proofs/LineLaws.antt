@@ -1,6 +1,6 @@
 -- What the steps on a set do to one line: what they leave alone, and what they go by.
 use mathlib.Core.Path.{_≡_, refl, sym, ap, ap₂, _∙_}
-use mathlib.Core.Bool.{Bool, true, false, cond, not, _&&_, false≢true}
+use mathlib.Core.Bool.{Bool, true, false, cond, not, false≢true}
 use mathlib.Core.List.{List, [], _∷_}
 use Prim.Native.Nat.{ℕ, zero, suc, pred, _≤_, _<_}
 use native.Mathlib.Nat.{lt-of-lt-of-le}
@@ -16,9 +16,8 @@ use Rattle.waymap.proofs.WayLaws.{any-ext, lowest-ext, lowest-found}
 use Rattle.replacement.specs.Rule.{Rule}
 use Rattle.replacement.specs.Isolates.{Isolates}
 use Rattle.row.specs.Row.{Row, Effect, ways, isHit, hitWay, hitAt, vacant, filled, fillAt, evictAt, accessBy, access, flushAt, flush}
-use Rattle.lookup.specs.Lookup.{matches}
 use Rattle.lookup.proofs.LookupLaws.{hit-own}
-use Rattle.lookup.proofs.LookupLaws as LookupLaws
+use Rattle.row.proofs.LookLaws as LookLaws
 use Rattle.policy.proofs.ReadLaws.{Cut}
 use Rattle.row.specs.View.{SameLine, SameView}
 use Rattle.policy.specs.declared.Maps.{Maps}
@@ -178,22 +177,15 @@ module _ {W : ℕ} {R : Rule} (I : Isolates W R) (few : W ≤ 16) (p : Maps) (c 
     as-long : ways r ≡ ways q
     as-long = long-r ∙ sym long-q
 
-    matches-same : (w : ℕ) → matches (r .tags) (r .valid) (p .hit) tag w ≡ matches (q .tags) (q .valid) (p .hit) tag w
-    unfolding matches
-    matches-same w =
-        cases (bit (p .hit) w)
-        (λ t. rw t (ap₂ (λ (b : Bool) (x : ℕ). b && eqb x tag) (s .lines w t .valid) (s .lines w t .tag)))
-        (λ t. rw t)
-
     vacant-same : (w : ℕ) → vacant r (p .fill) w ≡ vacant q (p .fill) w
     unfolding vacant
     vacant-same w = cases (bit (p .fill) w) (λ t. rw t (ap not (s .lines w (c .part w t) .valid))) (λ t. rw t)
 
     hit-same : isHit r (p .hit) tag ≡ isHit q (p .hit) tag
-    hit-same = LookupLaws.hit-same (r .tags) (q .tags) (r .valid) (q .valid) (p .hit) tag as-long matches-same
+    hit-same = LookLaws.hit-same (p .hit) tag r q as-long (s .lines)
 
     way-same : hitWay r (p .hit) tag ≡ hitWay q (p .hit) tag
-    way-same = LookupLaws.way-same (r .tags) (q .tags) (r .valid) (q .valid) (p .hit) tag as-long matches-same
+    way-same = LookLaws.way-same (p .hit) tag r q as-long (s .lines)
 
     fill-same : any (ways r) (bit (p .fill)) ≡ any (ways q) (bit (p .fill))
     fill-same = ap (λ (n : ℕ). any n (bit (p .fill))) as-long

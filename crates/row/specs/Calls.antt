@@ -6,13 +6,14 @@ use Prim.Native.Nat.{ℕ}
 use Rattle.replacement.specs.Rule.{ruleOf}
 use Rattle.waymap.specs.Ways.{isWays}
 use Rattle.replacement.specs.Calls.{inLimits}
-use Rattle.row.specs.Row.{Row, Effect, ways, access, flush}
+use Rattle.row.specs.Row.{Row, Effect, ways, isHit, hitWay, visited, access, flush}
 use Rattle.policy.specs.Policy.{asRead}
 use Rattle.policy.specs.declared.Maps.{Maps}
 use Rattle.row.specs.declared.Lines.{Lines}
 use Rattle.row.specs.declared.Done.{Done}
 use Rattle.command.specs.Answer.{answerOf}
-use Rattle.command.specs.declared.Answer.the-variants.{Refused}
+use Rattle.command.specs.declared.Answer.{Answer}
+use Rattle.command.specs.declared.Answer.the-variants.{Hit, Absent, Refused}
 
 -- A set's row from its lent tags and the rest by value.
 abbrev pub rowOf : List ℕ → Lines → Row
@@ -32,6 +33,15 @@ result d tags = record { answer = d .answer; row = rowOf tags (d .lines) }
 
 abbrev pub refused : ℕ → Row → Effect
 refused n r = record { answer = Refused n; row = r }
+
+-- The lookup alone, of a hit map as read: the way that it hits, or absent; and how many ways it visited, none where it is refused.
+unfoldable pub lookupOf : Maps → ℕ → Row → Answer
+lookupOf p tag r =
+    let hit = asRead (ways r) p .hit in
+    cond (isWays (ways r)) (cond (isHit r hit tag) (Hit (hitWay r hit tag)) Absent) (Refused 1)
+
+unfoldable pub visitedOf : Maps → ℕ → Row → ℕ
+visitedOf p tag r = cond (isWays (ways r)) (visited r (asRead (ways r) p .hit) tag) 0
 
 unfoldable pub accessOf : ℕ → Maps → ℕ → Bool → Row → Effect
 accessOf rule p tag store r =

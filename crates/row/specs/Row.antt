@@ -35,6 +35,10 @@ isHit r hit tag = Lookup.isHit (r .tags) (r .valid) hit tag
 abbrev pub hitWay : Row → ℕ → ℕ → ℕ
 hitWay r hit tag = Lookup.hitWay (r .tags) (r .valid) hit tag
 
+-- "how many ways it visited: the hit map's ways up to and including the one hit, or all of them without a hit"
+abbrev pub visited : Row → ℕ → ℕ → ℕ
+visited r hit tag = Lookup.visited (r .tags) (r .valid) hit tag
+
 -- ---- Access
 
 -- A hit: "the way is touched, and a store marks it dirty".

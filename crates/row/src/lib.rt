@@ -6,7 +6,8 @@ mod work;
 use command::Answer;
 use policy::Maps;
 ghost use mathlib.Core.Path.{_≡_};
-ghost use Rattle.row.specs.Calls.{rowOf, result, told, accessOf, flushOf};
+ghost use Rattle.command.specs.Answer.{answerOf};
+ghost use Rattle.row.specs.Calls.{rowOf, result, told, lookupOf, visitedOf, accessOf, flushOf};
 
 // A set's valid map, dirty map and replacement word.
 pub struct Lines {
@@ -19,6 +20,40 @@ pub struct Lines {
 pub struct Done {
     pub answer: Answer,
     pub lines: Lines,
+}
+
+// What a lookup answers, and how many ways it visited.
+pub struct Looked {
+    pub answer: Answer,
+    pub visited: usize,
+}
+
+// The lookup alone: it moves nothing.
+pub fn lookup(tags: &[u64], lines: Lines, maps: Maps, tag: u64) -> Looked
+    ensures { λ r. ⌜ answerOf (r .answer) ≡ answerOf (lookupOf maps tag (rowOf (now (tags .entry)) lines)) ⌝ }
+    ensures { λ r. ⌜ r .visited ≡ visitedOf maps tag (rowOf (now (tags .entry)) lines) ⌝ }
+{
+    let ways = tags.len();
+    if waymap::is_ways(ways) {} else {
+        return Looked {
+            answer: Answer::Refused(1),
+            visited: 0,
+        };
+    }
+    let read = policy::as_read(ways, maps);
+    let found = lookup::find(tags, lines.valid, read.hit, tag);
+    let way = found.way;
+    let visited = found.visited;
+    if way < ways {
+        return Looked {
+            answer: Answer::Hit(way),
+            visited,
+        };
+    }
+    Looked {
+        answer: Answer::Absent,
+        visited,
+    }
 }
 
 // A fetch, a load or a store.
@@ -41,7 +76,8 @@ pub fn access(
     }
     let read = policy::as_read(ways, maps);
     let fill = read.fill;
-    let way = lookup::hit_way(tags, lines.valid, read.hit, tag);
+    let found = lookup::find(tags, lines.valid, read.hit, tag);
+    let way = found.way;
     if way < ways {
         return Done {
             answer: Answer::Hit(way),
@@ -69,7 +105,8 @@ pub fn flush(tags: &[u64], lines: Lines, maps: Maps, tag: u64) -> Done
         };
     }
     let read = policy::as_read(ways, maps);
-    let way = lookup::hit_way(tags, lines.valid, read.hit, tag);
+    let found = lookup::find(tags, lines.valid, read.hit, tag);
+    let way = found.way;
     if way < ways {
         let dirty = waymap::has(lines.dirty, way);
         return Done {

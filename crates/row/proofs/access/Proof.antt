@@ -33,8 +33,8 @@ returns c = rw (sym (c .before .in-limits .ensures) ∙ c .if1 .left)
 as-read-requires : tie.Need-as-read-requires
 as-read-requires c κs = search needs
 
-hit-way-requires : tie.Need-hit-way-requires
-hit-way-requires c κs = search needs
+find-requires : tie.Need-find-requires
+find-requires c κs = search needs
 
 hit-requires : tie.Need-hit-requires
 hit-requires c κs = (usable (c .before .before .before), c .if2 .taken)
@@ -49,7 +49,7 @@ returns-2 c =
     let a = entry r .args in
     rw (limits r, ← (r .as-read .ensures))
     (ap told
-    (serve-hit (a .rule) (a .tag) (a .store) (a .tags .now) (a .lines) (r .as-read .result) (c .before .before .hit-way .ensures) (c .before .if2 .taken)
+    (serve-hit (a .rule) (a .tag) (a .store) (a .tags .now) (a .lines) (r .as-read .result) (c .before .before .find .ensures .0) (c .before .if2 .taken)
     (c .hit .ensures)))
 
 same-length-2 : tie.Need-same-length-2
@@ -62,7 +62,7 @@ returns-3 c =
     let a = entry r .args in
     rw (limits r, ← (r .as-read .ensures))
     (ap told
-    (serve-pass (a .rule) (a .tag) (a .store) (a .tags .now) (a .lines) (r .as-read .result) (c .before .before .hit-way .ensures) (c .before .if2 .left)
+    (serve-pass (a .rule) (a .tag) (a .store) (a .tags .now) (a .lines) (r .as-read .result) (c .before .before .find .ensures .0) (c .before .if2 .left)
     (no-fill (length (a .tags .now)) (r .as-read .result .fill) (c .if3 .taken))))
 
 bring-requires : tie.Need-bring-requires
@@ -82,7 +82,7 @@ returns-4 c =
     rw (limits r, ← (r .as-read .ensures))
     (ap told
     (serve-miss (a .rule) (a .tag) (a .store) (a .tags .now) (a .lines) (r .as-read .result)
-    (c .before .before .before .before .before .before .hit-way .ensures) (c .before .before .before .before .before .if2 .left)
+    (c .before .before .before .before .before .before .find .ensures .0) (c .before .before .before .before .before .if2 .left)
     (some-fill (length (a .tags .now)) (a .rule) (r .as-read .result .fill) (usable r) (c .before .before .before .before .if3 .left))
     (c .before .before .bring .ensures)))
 
@@ -93,7 +93,7 @@ access-spec =
     in-limits-requires
     returns
     as-read-requires
-    hit-way-requires
+    find-requires
     hit-requires
     same-length
     returns-2

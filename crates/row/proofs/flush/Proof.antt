@@ -16,8 +16,8 @@ returns c = rw (sym (c .before .is-ways .ensures) ∙ c .if1 .left)
 as-read-requires : tie.Need-as-read-requires
 as-read-requires c κs = search needs
 
-hit-way-requires : tie.Need-hit-way-requires
-hit-way-requires c κs = search needs
+find-requires : tie.Need-find-requires
+find-requires c κs = search needs
 
 has-requires : tie.Need-has-requires
 has-requires c κs = search needs
@@ -32,7 +32,7 @@ returns-2 c =
     let a = r .before .before .before .before .args in
     rw ((sym (r .before .before .is-ways .ensures) ∙ r .before .if1 .taken), ← (r .as-read .ensures))
     (ap told
-    (flush-hit (r .as-read .result) (a .tag) (a .tags .now) (a .lines) (c .before .before .before .hit-way .ensures) (c .before .before .if2 .taken)
+    (flush-hit (r .as-read .result) (a .tag) (a .tags .now) (a .lines) (c .before .before .before .find .ensures .0) (c .before .before .if2 .taken)
     (c .before .has .ensures) (c .flushed .ensures)))
 
 returns-3 : tie.Need-returns-3
@@ -41,9 +41,9 @@ returns-3 c =
     let r = c .before .before in
     let a = r .before .before .before .before .args in
     rw ((sym (r .before .before .is-ways .ensures) ∙ r .before .if1 .taken), ← (r .as-read .ensures))
-    (ap told (flush-absent (r .as-read .result) (a .tag) (a .tags .now) (a .lines) (c .before .hit-way .ensures) (c .if2 .left)))
+    (ap told (flush-absent (r .as-read .result) (a .tag) (a .tags .now) (a .lines) (c .before .find .ensures .0) (c .if2 .left)))
 
 pub flush-spec : {M : Type 1} → statement M
 flush-spec =
     tie.close
-    (tie.spec is-ways-requires returns as-read-requires hit-way-requires has-requires flushed-requires returns-2 returns-3)
+    (tie.spec is-ways-requires returns as-read-requires find-requires has-requires flushed-requires returns-2 returns-3)
