@@ -1,12 +1,17 @@
 // Writes what the cache holds before the first step and after each step of the trace file on standard input, as numbers in bytes, the
 // lowest byte first. A block for each: the hit map and the fill map of the sixteen domains (2 bytes each), the set of the step's argument
-// (2), the number of rows that follow (2), and the rows: set (2), valid map (2), dirty map (2), replacement word (8), tags (8 each). An
-// access or a flush has the row of its set, a policy change has all rows, and so has the block before the first step; other steps have
-// none. A refused file gives nothing. A failed read or write is told on standard error.
+// (2), the number of rows that follow (2), how many ways the step's lookup visited (2; 0 where the step is refused or looks nothing up),
+// and the rows: set (2), valid map (2), dirty map (2), replacement word (8), tags (8 each). An access or a flush has the row of its set, a
+// policy change has all rows, and so has the block before the first step; other steps have none. A refused file gives nothing. A failed
+// read or write is told on standard error.
+use command::Answer;
 use domains::Domains;
 use geometry::Geometry;
+use geometry::Place;
 use libc::STDERR_FILENO;
 use libc::STDOUT_FILENO;
+use policy::Maps;
+use row::Lines;
 ghost use mathlib.Core.Path.{_≡_};
 ghost use Prim.Native.Nat.{_+_, _*_, _≤_, _<_};
 ghost use lib.ListN.{length};
@@ -119,12 +124,12 @@ fn put_rows(
     next
 }
 
-// The set of an address.
-fn set_of(address: u64, sets: usize) -> usize
-    requires { ⌜ 0 < sets ⌝ }
-    ensures { λ r. ⌜ r < sets ⌝ }
+// Where an address's line can be.
+fn place_of(g: Geometry, address: u64) -> Place
+    requires { ⌜ 0 < g .sets ⌝ }
+    ensures { λ r. ⌜ r .set < g .sets ⌝ }
 {
-    (address / 64 % (sets as u64)) as usize
+    geometry::place_of(g, address)
 }
 
 // What a block shows of the tables: the set of its step's argument, and from which set up to which it has rows.
@@ -135,11 +140,12 @@ pub struct Span {
 }
 
 // The span of block i: block 0 stands before the first step, and another after step i - 1.
-fn span_of(file: &[u8], n: u32, i: u32, sets: usize) -> Span
-    requires { ⌜ 0 < sets ⌝ }
+fn span_of(file: &[u8], n: u32, i: u32, g: Geometry) -> Span
+    requires { ⌜ 0 < g .sets ⌝ }
     ensures { λ r. ⌜ r .from ≤ r .to ⌝ }
-    ensures { λ r. ⌜ r .to ≤ sets ⌝ }
+    ensures { λ r. ⌜ r .to ≤ g .sets ⌝ }
 {
+    let sets = g.sets;
     if i == 0 {
         return Span {
             set: 0,
@@ -148,7 +154,8 @@ fn span_of(file: &[u8], n: u32, i: u32, sets: usize) -> Span
         };
     }
     let command = tracefile::command_at(file, n, i - 1);
-    let set = set_of(command.argument, sets);
+    let place = place_of(g, command.argument);
+    let set = place.set;
     let kind = command.kind;
     if kind < 4 {
         return Span {
@@ -175,6 +182,7 @@ fn span_of(file: &[u8], n: u32, i: u32, sets: usize) -> Span
 fn show(
     ways: usize,
     domains: Domains,
+    visited: u16,
     span: Span,
     tags: &[u64],
     valid: &[u16],
@@ -186,20 +194,69 @@ fn show(
     requires { ⌜ span .from ≤ span .to ⌝ }
     requires { ⌜ span .to ≤ 256 ⌝ }
     requires { ⌜ ways ≤ 16 ⌝ }
-    requires { ⌜ 36420 ≤ length (now out) ⌝ }
+    requires { ⌜ 36422 ≤ length (now out) ⌝ }
 {
     let from = span.from;
     let to = span.to;
     put_maps(domains, out);
-    put(shorts(span.set, (to - from) as u16, 0), 4, out, 64);
-    let n = put_rows(ways, from, to, tags, valid, dirty, words, out, 68);
+    put(shorts(span.set, (to - from) as u16, visited), 6, out, 64);
+    let n = put_rows(ways, from, to, tags, valid, dirty, words, out, 70);
     io::write_all(STDOUT_FILENO, &out[..n])
 }
 
-// The domains after a step, and whether all blocks before it were written.
+// The domains after a step, how many ways its lookup visited, and whether all blocks before it were written.
 pub struct Shown {
     pub domains: Domains,
+    pub visited: u16,
     pub written: bool,
+}
+
+// How many ways the lookup of a step visits, on the tables before it. Only an access or a flush has one.
+fn visits(
+    g: Geometry,
+    tags: &[u64],
+    valid: &[u16],
+    domains: Domains,
+    domain: usize,
+    kind: u8,
+    address: u64,
+) -> usize
+    requires { ⌜ Small (g .sets) (g .ways) ⌝ }
+    requires { ⌜ Rows (g .sets) (g .ways) (length (now tags)) (length (now valid)) (g .sets) (g .sets) ⌝ }
+{
+    if 3 < kind {
+        return 0;
+    }
+    if 16 <= domain {
+        return 0;
+    }
+    let own = domains.records[domain];
+    let place = place_of(g, address);
+    let set = place.set;
+    let start = start_of(set, g.ways);
+    let stop = start + g.ways;
+    let looked = row::lookup(
+        &tags[start..stop],
+        Lines {
+            valid: valid[set],
+            dirty: 0,
+            word: 0,
+        },
+        Maps {
+            hit: own.hit,
+            fill: own.fill,
+        },
+        place.tag,
+    );
+    looked.visited
+}
+
+// What a lookup visits if its step is not refused: a refused step looks nothing up.
+fn unless_refused(answer: Answer, visited: usize) -> u16 {
+    match answer {
+        Answer::Refused(n) => 0,
+        _ => (visited % 65536) as u16,
+    }
 }
 
 // Whether both hold.
@@ -208,6 +265,47 @@ fn both(first: bool, second: bool) -> bool {
         return second;
     }
     false
+}
+
+// Takes step i of a file of n steps.
+fn take(
+    g: Geometry,
+    file: &[u8],
+    n: u32,
+    i: u32,
+    tags: &mut [u64],
+    valid: &mut [u16],
+    dirty: &mut [u16],
+    words: &mut [u64],
+    before: Shown,
+) -> Shown
+    requires { ⌜ Small (g .sets) (g .ways) ⌝ }
+    requires { ⌜ Rows (g .sets) (g .ways) (length (now tags)) (length (now valid)) (length (now dirty)) (length (now words)) ⌝ }
+{
+    let command = tracefile::command_at(file, n, i);
+    let domain = command.domain as usize;
+    let kind = command.kind;
+    let argument = command.argument;
+    let domains = before.domains;
+    let looked = visits(g, tags, valid, domains, domain, kind, argument);
+    let stepped = cache::step(
+        g,
+        tags,
+        valid,
+        dirty,
+        words,
+        domains,
+        domain,
+        kind,
+        argument,
+    );
+    let answer = stepped.answer;
+    let after = stepped.domains;
+    Shown {
+        domains: after,
+        visited: unless_refused(answer, looked),
+        written: before.written,
+    }
 }
 
 // Writes block i of a file of n steps, and takes step i, if there is one.
@@ -225,32 +323,31 @@ fn block(
 ) -> Shown
     requires { ⌜ Small (g .sets) (g .ways) ⌝ }
     requires { ⌜ Rows (g .sets) (g .ways) (length (now tags)) (length (now valid)) (length (now dirty)) (length (now words)) ⌝ }
-    requires { ⌜ 36420 ≤ length (now out) ⌝ }
+    requires { ⌜ 36422 ≤ length (now out) ⌝ }
 {
-    let span = span_of(file, n, i, g.sets);
+    let span = span_of(file, n, i, g);
     let domains = before.domains;
-    let shown = show(g.ways, domains, span, tags, valid, dirty, words, out);
-    let written = both(before.written, shown);
-    if i == n {
-        return Shown { domains, written };
-    }
-    let command = tracefile::command_at(file, n, i);
-    let stepped = cache::step(
-        g,
+    let visited = before.visited;
+    let shown = show(
+        g.ways,
+        domains,
+        visited,
+        span,
         tags,
         valid,
         dirty,
         words,
-        domains,
-        command.domain as usize,
-        command.kind,
-        command.argument,
+        out,
     );
-    let after = stepped.domains;
-    Shown {
-        domains: after,
-        written,
+    let after = Shown {
+        domains,
+        visited,
+        written: both(before.written, shown),
+    };
+    if i == n {
+        return after;
     }
+    take(g, file, n, i, tags, valid, dirty, words, after)
 }
 
 // Writes the blocks of a file that is not refused, on tables of its geometry, and answers whether all were written.
@@ -265,11 +362,12 @@ fn run(
 ) -> bool
     requires { ⌜ Small (g .sets) (g .ways) ⌝ }
     requires { ⌜ Rows (g .sets) (g .ways) (length (now tags)) (length (now valid)) (length (now dirty)) (length (now words)) ⌝ }
-    requires { ⌜ 36420 ≤ length (now out) ⌝ }
+    requires { ⌜ 36422 ≤ length (now out) ⌝ }
 {
     fresh::fresh_tables(g, tags, valid, dirty, words);
     let mut shown = Shown {
         domains: fresh::fresh_domains(),
+        visited: 0,
         written: true,
     };
     let n = tracefile::steps(file);
@@ -292,7 +390,7 @@ fn lend(g: Geometry, cells: usize, file: &[u8]) -> bool
     let mut valid = [0u16; 256];
     let mut dirty = [0u16; 256];
     let mut words = [0u64; 256];
-    let mut out = [0u8; 36420];
+    let mut out = [0u8; 36422];
     let sets = g.sets;
     run(
         g,

@@ -6,20 +6,26 @@ use Rattle.stepper.proofs.RowLaws.{rows-below}
 use Rattle.stepper.proofs.block.Statement.{statement}
 use Rattle.stepper.proofs.block.Tie as tie
 
+-- the call's entry, from where the span is given; and the place after the block was shown, from where the step was taken
+abbrev entry : tie.After-span-of → tie.Start
+entry c = c .before .before .before .before .before .before .before
+
+abbrev shown : tie.After-take → tie.After-show
+shown c = c .before .before .before .before .before .before .before .before .before
+
 span-of-requires : tie.Need-span-of-requires
 span-of-requires c κs = search needs
 
 show-requires : tie.Need-show-requires
 show-requires c κs =
     let spanned = c .before .before .before .before .before .before in
-    let entry = spanned .before .before .before .before .before .before .before in
     let span = spanned .span-of .ensures in (
-      rows-below (span .1) (entry .pre .1 .0),
-      (span .0, (le-trans (span .1) (entry .pre .0 .few-sets), (entry .pre .0 .few-ways, entry .pre .1 .1))),
+      rows-below (span .1) (entry spanned .pre .1 .0),
+      (span .0, (le-trans (span .1) (entry spanned .pre .0 .few-sets), (entry spanned .pre .0 .few-ways, entry spanned .pre .1 .1))),
     )
 
 both-requires : tie.Need-both-requires
-both-requires c κs = search needs
+both-requires c κs = tt
 
 same-length : tie.Need-same-length
 same-length c = refl
@@ -34,36 +40,28 @@ same-length-4 : tie.Need-same-length-4
 same-length-4 c = refl
 
 same-length-5 : tie.Need-same-length-5
-same-length-5 c = c .before .before .before .before .show .kept .1 .1 .1 .1 .1 .1 .1 .0
+same-length-5 c = c .before .before .before .before .show .kept .1 .1 .1 .1 .1 .1 .1 .1 .0
 
 returns : tie.Need-returns
 returns c = search needs
 
-command-at-requires : tie.Need-command-at-requires
-command-at-requires c κs = search needs
-
-cast-step : tie.Need-cast-step
-cast-step c = search needs
-
-step-requires : tie.Need-step-requires
-step-requires c κs = search needs
+take-requires : tie.Need-take-requires
+take-requires c κs = let e = entry (c .before .before .before .before .before .before .before .before .before .before .before .before .before .before .before) in (e .pre .0, e .pre .1 .0)
 
 same-length-6 : tie.Need-same-length-6
-same-length-6 c = c .before .before .before .before .before .before .before .before .before .step .kept .1 .0
+same-length-6 c = c .before .before .before .before .before .before .before .before .take .kept .1 .1 .1 .1 .0
 
 same-length-7 : tie.Need-same-length-7
-same-length-7 c = c .before .before .before .before .before .before .before .before .before .step .kept .1 .1 .0
+same-length-7 c = c .before .before .before .before .before .before .before .before .take .kept .1 .1 .1 .1 .1 .0
 
 same-length-8 : tie.Need-same-length-8
-same-length-8 c = c .before .before .before .before .before .before .before .before .before .step .kept .1 .1 .1 .0
+same-length-8 c = c .before .before .before .before .before .before .before .before .take .kept .1 .1 .1 .1 .1 .1 .0
 
 same-length-9 : tie.Need-same-length-9
-same-length-9 c = c .before .before .before .before .before .before .before .before .before .step .kept .1 .1 .1 .1 .0
+same-length-9 c = c .before .before .before .before .before .before .before .before .take .kept .1 .1 .1 .1 .1 .1 .1 .0
 
 same-length-10 : tie.Need-same-length-10
-same-length-10 c =
-    let stepped = c .before .before .before .before .before .before .before .before .before in
-    stepped .before .before .before .before .before .before .before .before .before .before .before .show .kept .1 .1 .1 .1 .1 .1 .1 .0
+same-length-10 c = shown (c .before .before .before .before .before .before .before .before) .show .kept .1 .1 .1 .1 .1 .1 .1 .1 .0
 
 returns-2 : tie.Need-returns-2
 returns-2 c = search needs
@@ -81,9 +79,7 @@ block-spec =
     same-length-4
     same-length-5
     returns
-    command-at-requires
-    cast-step
-    step-requires
+    take-requires
     same-length-6
     same-length-7
     same-length-8
