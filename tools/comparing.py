@@ -9,7 +9,7 @@ import struct
 import subprocess
 import tempfile
 import time
-from dataclasses import dataclass
+from dataclasses import dataclass, replace
 from typing import Callable
 
 from families import make
@@ -166,24 +166,28 @@ def first_other_line(one, other):
 
 def shown(line):
     if line is None:
-        return "(the listing has ended)"
+        return "(the output has ended)"
     text = line.removesuffix(b"\n").decode("ascii", "backslashreplace")
     text = text if text.isprintable() else repr(text)
     text = text if len(text) <= 200 else text[:200] + " ..."
     return text if line.endswith(b"\n") else text + "  (without a line feed)"
 
 
-def describe_step(data, line):
-    """The step that a line of the listing is about, or what else the line is."""
-    n = struct.unpack_from("<I", data, 4)[0] if len(data) >= HEADER else None
-    if n is None or len(data) != HEADER + 10 * n:
-        return f"line {line} of the listing; the file has {len(data)} bytes"
-    sets, ways, rule = struct.unpack_from("<HBB", data)
-    trace = f"{n} steps, {sets} sets, {ways} ways, rule {rule}"
-    if not 1 <= line <= n:
-        return f"line {line} of the listing of {trace}"
-    domain, kind, argument = step_of(data, line - 1)
-    return f"step {line - 1} of {trace}: domain {domain}, kind {kind} ({KINDS.get(kind, 'unknown')}), {argument:#x}"
+def about_steps(output, first):
+    """The function that says which step a line of such an output is about, or what else the line is; the line of step 0
+    is `first`."""
+    def describe(data, line):
+        n = struct.unpack_from("<I", data, 4)[0] if len(data) >= HEADER else None
+        if n is None or len(data) != HEADER + 10 * n:
+            return f"line {line} of the {output}; the file has {len(data)} bytes"
+        sets, ways, rule = struct.unpack_from("<HBB", data)
+        trace = f"{n} steps, {sets} sets, {ways} ways, rule {rule}"
+        place = line - first
+        if not 0 <= place < n:
+            return f"line {line} of the {output} of {trace}"
+        domain, kind, argument = step_of(data, place)
+        return f"step {place} of {trace}: domain {domain}, kind {kind} ({KINDS.get(kind, 'unknown')}), {argument:#x}"
+    return describe
 
 
 def describe_ending(outcome):
@@ -193,18 +197,25 @@ def describe_ending(outcome):
     return f"status {outcome.status}" + (f", and says: {' '.join(complaints[:2])}" if complaints else "")
 
 
+def as_it_is(_data, output):
+    """What a proved program wrote about a file, if it writes what the reference writes."""
+    return output
+
+
 @dataclass(frozen=True)
 class Subject:
     """What is compared: the words that ask for it, of the reference and of tools/compare; the census of what came up in
-    it; and a function that says of a file what a line, from 0, of the output is about."""
+    it; a function that says of a file what a line, from 0, of the output is about; and one that makes what the proved
+    program wrote about a file into what is set beside the reference's output."""
 
     asked_of_reference: tuple
     asked_of_compare: str
     census: type
     describe: Callable[[bytes, int], str]
+    proved_text: Callable[[bytes, bytes], bytes] = as_it_is
 
 
-LISTINGS = Subject((), "", Census, describe_step)
+LISTINGS = Subject((), "", Census, about_steps("listing", 1))
 
 
 @dataclass(frozen=True)
@@ -275,6 +286,7 @@ class Comparison:
         given = file.data, self.options.timeout, file.pauses
         reference = run(self.reference, *given, self.subject.asked_of_reference)
         proved = run(self.proved, *given)
+        proved = replace(proved, listing=self.subject.proved_text(file.data, proved.listing))
         self.tried += 1
         self.census.take(reference.listing)
         if not agreed(proved, reference):

@@ -17,7 +17,8 @@ from traces import LOAD, MOST_STEPS, STORE, halved, header, submap
 
 SETS, WAYS = 256, 16
 HALF = WAYS // 2
-UPPER = (1 << WAYS) - (1 << HALF)  # the map of domain 1 at first; that of domain 0 is the lower half
+WHOLE = (1 << WAYS) - 1
+UPPER = WHOLE - ((1 << HALF) - 1)  # the map of domain 1 at first; that of domain 0 is the lower half
 RULES = [(0, "Tree-PLRU"), (1, "NRU"), (2, "LRU")]
 TOTAL = re.compile(rb"^totals: (\d+)$", re.MULTILINE)
 
@@ -29,20 +30,20 @@ def address(number, tag):
     return (tag * SETS + number) * 64
 
 
-def fill_sets(trace):
-    """Fills all ways of every sixteenth set, each domain its half of them with tags 0 to 7. Answers these sets."""
+def fill_sets(trace, domains=2):
+    """Fills all ways of every sixteenth set, each domain its share of them with tags from 0 on. Answers these sets."""
     filled = range(0, SETS, 16)
     for number in filled:
-        for domain in (0, 1):
-            for tag in range(HALF):
+        for domain in range(domains):
+            for tag in range(WAYS // domains):
                 trace.add(domain, LOAD, address(number, tag))
     return filled
 
 
-def add_access(trace, numbers, tag):
-    """A load or a store of either domain, in one of these sets."""
+def add_access(trace, numbers, tag, domains=2):
+    """A load or a store of one of the domains, in one of these sets."""
     rng = trace.rng
-    trace.add(rng.randrange(2), rng.choice([LOAD, STORE]), address(rng.choice(numbers), tag))
+    trace.add(rng.randrange(domains), rng.choice([LOAD, STORE]), address(rng.choice(numbers), tag))
 
 
 def hits(trace):
@@ -50,6 +51,15 @@ def hits(trace):
     filled = fill_sets(trace)
     while len(trace.steps) < MOST_STEPS:
         add_access(trace, filled, trace.rng.randrange(HALF))
+
+
+def whole_hits(trace):
+    """Gives all ways to domain 0, and does the same."""
+    trace.set_policy(1, 0, 0)
+    trace.set_policy(0, WHOLE, WHOLE)
+    filled = fill_sets(trace, 1)
+    while len(trace.steps) < MOST_STEPS:
+        add_access(trace, filled, trace.rng.randrange(WAYS), 1)
 
 
 def evictions(trace):
@@ -78,6 +88,7 @@ def policies(trace):
 
 SORTS = [
     ("hits", "nearly all steps hit, in all ways of 16 sets", hits),
+    ("whole hits", "the same, of one domain that has all ways", whole_hits),
     ("evictions", "nearly all steps evict, in 16 sets", evictions),
     ("policies", "most steps are accepted changes that find no word zero", policies),
 ]

@@ -40,9 +40,14 @@ impl Cache {
 
     /// Does one step, or turns it down: "The answer is the number alone and nothing else moves."
     pub fn step(&mut self, step: &Step) -> Answer {
+        self.step_and_visits(step).0
+    }
+
+    /// Does one step, and gives beside its answer how many ways its lookup visited: 0 if it made none.
+    pub fn step_and_visits(&mut self, step: &Step) -> (Answer, usize) {
         match judge(&self.geometry, &self.domains, step) {
-            Err(refusal) => Answer::Refused(refusal),
-            Ok((domain, Kind::Policy)) => self.change_policy(domain, Policy::from_argument(step.argument)),
+            Err(refusal) => (Answer::Refused(refusal), 0),
+            Ok((domain, Kind::Policy)) => (self.change_policy(domain, Policy::from_argument(step.argument)), 0),
             Ok((domain, Kind::Flush)) => self.flush(domain, step.argument),
             Ok((domain, Kind::Store)) => self.access(domain, step.argument, true),
             Ok((domain, Kind::Fetch | Kind::Load)) => self.access(domain, step.argument, false),
@@ -51,30 +56,39 @@ impl Cache {
 
     /// "It hits the lowest way of the domain's hit map that is valid with an equal tag; the way is touched, and a
     /// store marks it dirty. Otherwise it misses. With an empty fill map it *passes*: nothing but the miss count
-    /// moves."
-    fn access(&mut self, domain: usize, address: u64, store: bool) -> Answer {
+    /// moves." Beside the answer is the number of ways visited.
+    fn access(&mut self, domain: usize, address: u64, store: bool) -> (Answer, usize) {
         let (set, tag) = self.geometry.place(address);
         let policy = self.domains.policy(domain);
-        if let Some(way) = self.find(set, tag, policy.hit_map) {
+        let (found, visited) = self.find(set, tag, policy.hit_map);
+        if let Some(way) = found {
             self.touch(set, policy.fill_map, way);
             if store {
                 self.dirty[set] |= only(way);
             }
             self.domains.counts_mut(domain).hits += 1;
-            return Answer::Hit { way };
+            return (Answer::Hit { way }, visited);
         }
         self.domains.counts_mut(domain).misses += 1;
         if policy.fill_map == 0 {
-            return Answer::Pass;
+            return (Answer::Pass, visited);
         }
-        self.fill(domain, set, tag, store)
+        (self.fill(domain, set, tag, store), visited)
     }
 
-    /// The lowest way of the hit map that is valid with an equal tag.
-    fn find(&self, set: usize, tag: u64, hit_map: Map) -> Option<usize> {
+    /// The lowest way of the hit map that is valid with an equal tag, and the number of ways visited. By document 02,
+    /// the lookup shall "visit only the ways whose bit is set in the hitmap, lowest first, and compare no other tag. It
+    /// also answers how many ways it visited: the hit map's ways up to and including the one hit, or all of them
+    /// without a hit." Ways of W or more are not there, and an invalid way is visited as any other.
+    fn find(&self, set: usize, tag: u64, hit_map: Map) -> (Option<usize>, usize) {
         let row = &self.tags[set * self.geometry.ways..][..self.geometry.ways];
-        let candidates = hit_map & self.valid[set];
-        (0..self.geometry.ways).find(|&way| holds(candidates, way) && row[way] == tag)
+        let valid = self.valid[set];
+        let mut visited = 0;
+        let found = (0..self.geometry.ways)
+            .filter(|&way| holds(hit_map, way))
+            .inspect(|_| visited += 1)
+            .find(|&way| holds(valid, way) && row[way] == tag);
+        (found, visited)
     }
 
     /// "Else the lowest invalid way of the fill map is filled; if none, the victim is evicted and its tag and
@@ -114,11 +128,12 @@ impl Cache {
 
     /// "A hit, found as above, is made invalid and not dirty; its tag and all replacement bits stay. The answer is its
     /// way and whether it was dirty; then flushed rises by one and, if dirty, written back too. Else the answer is
-    /// *absent* and no count moves."
-    fn flush(&mut self, domain: usize, address: u64) -> Answer {
+    /// *absent* and no count moves." Beside the answer is the number of ways visited.
+    fn flush(&mut self, domain: usize, address: u64) -> (Answer, usize) {
         let (set, tag) = self.geometry.place(address);
-        let Some(way) = self.find(set, tag, self.domains.policy(domain).hit_map) else {
-            return Answer::Absent;
+        let (found, visited) = self.find(set, tag, self.domains.policy(domain).hit_map);
+        let Some(way) = found else {
+            return (Answer::Absent, visited);
         };
         let dirty = holds(self.dirty[set], way);
         self.valid[set] &= !only(way);
@@ -126,7 +141,7 @@ impl Cache {
         let counts = self.domains.counts_mut(domain);
         counts.flushed += 1;
         counts.written_back += u32::from(dirty);
-        Answer::Flush { way, dirty }
+        (Answer::Flush { way, dirty }, visited)
     }
 
     /// "Both maps are stored. Ways in exactly one of the old and new hit maps are cleaned in every set." What the

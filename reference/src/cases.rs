@@ -2,7 +2,7 @@
 
 use crate::geometry::Geometry;
 use crate::maps::Map;
-use crate::{listing, nru, rules, tree};
+use crate::{listing, nru, rules, tree, visits};
 
 /// (domain, kind, argument)
 type Code = (u8, u8, u64);
@@ -50,9 +50,8 @@ domain 0 1 3 1 1 1
 domain 1 0 1 0 0 0
 ";
 
-#[test]
-fn case_a_the_listing() {
-    let steps = [
+fn steps_of_case_a() -> [Code; 9] {
+    [
         policy(0, 3),
         policy(1, 12),
         (0, STORE, 0),
@@ -62,8 +61,20 @@ fn case_a_the_listing() {
         (0, FLUSH, 64),
         (2, LOAD, 0),
         (0, LOAD, 128),
-    ];
-    assert_eq!(list(1, 4, 0, &steps), CASE_A);
+    ]
+}
+
+#[test]
+fn case_a_the_listing() {
+    assert_eq!(list(1, 4, 0, &steps_of_case_a()), CASE_A);
+}
+
+/// Four misses in maps of two ways; then a flush of the map's second way, a refused step and a hit in its first way.
+#[test]
+fn case_a_the_ways_visited() {
+    let text = visits::of_file(&file(1, 4, 0, &steps_of_case_a()));
+    let numbers: Vec<&str> = text.lines().collect();
+    assert_eq!(numbers, ["0", "0", "2", "2", "2", "2", "2", "0", "1"]);
 }
 
 #[test]
@@ -220,6 +231,19 @@ fn conflicts_and_victims_of_the_rules_called_alone() {
     assert_eq!(of_rule(2, "conflict"), ["conflict 0"; 4]);
     assert_eq!(of_rule(1, "victim"), ["victim 0 5", "victim 1 10", "victim 1 6", "victim refused 5"]);
     assert_eq!(of_rule(2, "victim"), ["victim 0 0", "victim 1 0", "victim 1 0", "victim refused 5"]);
+}
+
+/// Domain 15 has ways 9 to 11 and 13 of sixteen: four without a hit, the first two up to way 10. A file without a step
+/// has no number, and a refused one has none either.
+#[test]
+fn the_ways_visited_by_a_file() {
+    let load = |address| (15, LOAD, address);
+    let steps =
+        [policy(15, 0x2e00), load(0), load(4096), load(0), load(4096), (15, FLUSH, 4096), (15, 4, 0), (0, LOAD, 0)];
+    assert_eq!(visits::of_file(&file(64, 16, 2, &steps)), "0\n4\n4\n1\n2\n2\n0\n0\n");
+    assert_eq!(visits::of_file(&file(64, 16, 2, &[])), "");
+    assert_eq!(visits::of_file(&file(64, 16, 3, &steps)), "refused\n");
+    assert_eq!(visits::of_file(&[]), "refused\n");
 }
 
 /// n is a number of 32 bits: 10 × n in 32 bits would make 3 + 2^31 steps look like 3.

@@ -184,3 +184,127 @@ fn the_lowest_number_is_given() {
     assert_eq!(refused(&mut cache, policy(15, 15)), 8);
     assert_eq!(refused(&mut cache, of_domain(2, flush(0))), 6);
 }
+
+/// One set of eight ways, all valid, way w with tag 10 + w.
+fn filled() -> Cache {
+    let mut cache = cache(8, Rule::Nru);
+    cache.valid[0] = 0xff;
+    cache.tags = (10..18).collect();
+    cache
+}
+
+/// The hit map has ways 1, 4 and 6: its first, its middle and its last way are the first, second and third visited.
+#[test]
+fn a_hit_visits_the_ways_of_the_map_up_to_its_own() {
+    let cache = filled();
+    let hit_map = 0b0101_0010;
+    assert_eq!(cache.find(0, 11, hit_map), (Some(1), 1));
+    assert_eq!(cache.find(0, 14, hit_map), (Some(4), 2));
+    assert_eq!(cache.find(0, 16, hit_map), (Some(6), 3));
+}
+
+#[test]
+fn a_miss_visits_all_ways_of_the_map() {
+    let cache = filled();
+    for hit_map in 0..=0xff {
+        assert_eq!(cache.find(0, 9, hit_map), (None, hit_map.count_ones() as usize), "map {hit_map}");
+    }
+}
+
+/// Tag 15 is in way 5, which no map without that way visits, and a map with it and lower ones visits last.
+#[test]
+fn a_way_outside_the_map_is_not_visited() {
+    let cache = filled();
+    assert_eq!(cache.find(0, 15, 0b0101_0010), (None, 3));
+    assert_eq!(cache.find(0, 15, 0b1101_1111), (None, 7));
+    assert_eq!(cache.find(0, 15, 0b0010_0000), (Some(5), 1));
+    assert_eq!(cache.find(0, 15, 0b1110_0110), (Some(5), 3));
+}
+
+/// Ways 1 and 4 have the tag too, but are invalid.
+#[test]
+fn an_invalid_way_with_an_equal_tag_is_visited_and_not_hit() {
+    let mut cache = filled();
+    cache.valid[0] = 0b1110_1101;
+    cache.tags = vec![10, 16, 12, 13, 16, 15, 16, 17];
+    assert_eq!(cache.find(0, 16, 0b0101_0010), (Some(6), 3));
+    assert_eq!(cache.find(0, 16, 0b0001_0010), (None, 2));
+}
+
+#[test]
+fn of_two_equal_tags_the_lower_ends_the_visits() {
+    let mut cache = filled();
+    cache.tags[4] = 16;
+    assert_eq!(cache.find(0, 16, 0b0101_0010), (Some(4), 2));
+}
+
+/// Ways of W or more are left out, by the lookup itself and by a stored policy that is read.
+#[test]
+fn ways_of_w_or_more_are_not_visited() {
+    let mut cache = filled();
+    assert_eq!(cache.find(0, 9, 0xff52), (None, 3));
+    assert_eq!(cache.find(0, 16, 0xff52), (Some(6), 3));
+    assert_eq!(cache.find(0, 16, 0xff00), (None, 0));
+    cache.domains.store(0, Policy { hit_map: 0xff52, fill_map: 0 });
+    assert_eq!(cache.step_and_visits(&store(9)), (Answer::Pass, 3));
+    assert_eq!(cache.step_and_visits(&flush(14)), (Answer::Flush { way: 4, dirty: false }, 2));
+}
+
+#[test]
+fn each_map_and_each_way_of_sixteen() {
+    let mut cache = cache(16, Rule::Lru);
+    cache.valid[0] = u16::MAX;
+    cache.tags = (0..16).collect();
+    for hit_map in 0..=u16::MAX {
+        let ways: Vec<usize> = (0..16).filter(|way| hit_map >> way & 1 == 1).collect();
+        for way in 0..16 {
+            let place = ways.iter().position(|&mapped| mapped == way);
+            let due = (place.map(|_| way), place.map_or(ways.len(), |place| place + 1));
+            assert_eq!(cache.find(0, way as u64, hit_map), due, "map {hit_map}, way {way}");
+        }
+    }
+}
+
+/// Every answer of an access or a flush has the visits of its lookup: ways 2, 5 and 6, which begin invalid.
+#[test]
+fn every_access_and_flush_says_what_it_visited() {
+    let mut cache = cache(8, Rule::Nru);
+    cache.step(&policy(0b0110_0100, 0b0110_0000));
+    let mut visits = |step: Step, answer: Answer| {
+        let (answered, visited) = cache.step_and_visits(&step);
+        assert_eq!(answered, answer);
+        visited
+    };
+    assert_eq!(visits(flush(1), Answer::Absent), 3);
+    assert_eq!(visits(store(1), Answer::Fill { way: 5 }), 3);
+    assert_eq!(visits(store(2), Answer::Fill { way: 6 }), 3);
+    assert_eq!(visits(Step { kind: 0, ..store(1) }, Answer::Hit { way: 5 }), 2);
+    assert_eq!(visits(Step { kind: 1, ..store(2) }, Answer::Hit { way: 6 }), 3);
+    assert_eq!(visits(store(3), Answer::Evict { way: 5, tag: 1, dirty: true }), 3);
+    assert_eq!(visits(flush(3), Answer::Flush { way: 5, dirty: true }), 2);
+    assert_eq!(visits(flush(3), Answer::Absent), 3);
+    assert_eq!(visits(policy(0b0110_0100, 0), Answer::Policy { dropped: 0, dirty_dropped: 0 }), 0);
+    assert_eq!(visits(store(4), Answer::Pass), 3);
+}
+
+/// A policy change makes no lookup, nor does a step that is turned down, by whichever number.
+#[test]
+fn without_a_lookup_no_way_is_visited() {
+    let mut cache = cache(8, Rule::TreePlru);
+    assert_eq!(cache.step_and_visits(&policy(0b0101, 0b0101)).1, 0);
+    cache.step(&store(0));
+    let mut refused = |step: Step| match cache.step_and_visits(&step) {
+        (Answer::Refused(refusal), visited) => (refusal.number(), visited),
+        answer => panic!("{answer:?}"),
+    };
+    assert_eq!(refused(of_domain(16, store(0))), (3, 0));
+    assert_eq!(refused(Step { kind: 4, ..store(0) }), (4, 0));
+    assert_eq!(refused(policy(0, 1)), (5, 0));
+    assert_eq!(refused(of_domain(1, store(0))), (6, 0));
+    assert_eq!(refused(of_domain(1, flush(0))), (6, 0));
+    assert_eq!(refused(of_domain(1, policy(0b0100, 0))), (8, 0));
+    assert_eq!(refused(of_domain(1, policy(0b1010, 0b1010))), (9, 0));
+    cache.domains.counts_mut(0).flushed = u32::MAX;
+    assert_eq!(cache.step_and_visits(&store(0)), (Answer::Refused(Refusal::CountSpent), 0));
+    assert_eq!(cache.step_and_visits(&flush(0)), (Answer::Refused(Refusal::CountSpent), 0));
+}
