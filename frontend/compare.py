@@ -6,7 +6,7 @@ from dataclasses import dataclass
 
 from frontend import maps, stepper, words
 from frontend.errors import MachineFailure
-from frontend.listing import Answer, Listing
+from frontend.listing import Listing
 from frontend.numbers import counted
 from frontend.run import Run
 from frontend.tracefile import LRU, POLICY, Step
@@ -55,26 +55,30 @@ class Comparison:
 
 def compare(whole: Run, struck: Run, domain: int) -> Comparison:
     """Compare what a domain sees in the whole run and in its struck-out run."""
-    own = _pairs(whole, struck, lambda step: step.domain == domain, str)
+    own = _pairs(whole, struck, lambda step: step.domain == domain, _answer)
     others = _pairs(whole, struck, lambda step: step.domain != domain and step.kind == POLICY, _verdict)
     return Comparison(own, others, [ending for part in _AT_THE_END for ending in part(whole, struck, domain)])
 
 
-def _verdict(answer: Answer) -> str:
+def _answer(run: Run, place: int) -> str:
+    """Give what is compared of the domain's own step: its answer, and how many ways its lookup visited, if it made one."""
+    answer, visited = str(run.listing.answers[place]), run.blocks[place + 1].visited
+    return f"{answer}, {counted(visited, 'way')} visited" if visited else answer
+
+
+def _verdict(run: Run, place: int) -> str:
     """Give what is compared of another domain's policy change: that it is accepted, or its refusal."""
+    answer = run.listing.answers[place]
     return "accepted" if answer.word == "policy" else str(answer)
 
 
-def _pairs(whole: Run, struck: Run, chosen: Callable[[Step], bool], view: Callable[[Answer], str]) -> list[Pair]:
+def _pairs(whole: Run, struck: Run, chosen: Callable[[Step], bool], view: Callable[[Run, int], str]) -> list[Pair]:
     """Pair the n-th chosen step of one run with the n-th of the other."""
     places = [[i for i, step in enumerate(run.trace.steps) if chosen(step)] for run in (whole, struck)]
     steps = [[run.trace.steps[i] for i in found] for run, found in zip((whole, struck), places)]
     if steps[0] != steps[1]:
         raise MachineFailure("the struck-out run does not have the steps that are compared")
-    return [
-        Pair((view(whole.listing.answers[i]), view(struck.listing.answers[j])), step, (i, j))
-        for step, i, j in zip(steps[0], *places)
-    ]
+    return [Pair((view(whole, i), view(struck, j)), step, (i, j)) for step, i, j in zip(steps[0], *places)]
 
 
 def _counts(whole: Run, struck: Run, domain: int) -> list[Ending]:

@@ -58,6 +58,8 @@ class Explainer:
         before, after = self._blocks[place], self._blocks[place + 1]
         yield self._paint("bold", f"step {place}  {words.step(step)}")
         yield from self._answer(answer)
+        if after.visited:
+            yield f"  The lookup visited {counted(after.visited, 'way')}."
         if answer.word == "policy" or answer.word == "refused" and answer.fields[0] in _BY_STATE:
             yield from _maps(before, after)
         if answer.word == "refused" and not after.rows:

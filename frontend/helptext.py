@@ -57,7 +57,8 @@ struck out (by target/bin/purger), and show side by side what DOMAIN sees: the
 answers to its steps; at the end its line of the listing, its maps, the lines in
 its ways and its own replacement data (by target/bin/parts); and whether the
 policy changes of other domains are accepted. That these are equal for every
-trace is the first claim of docs/CLAIMS.md. That the purger's list is the
+trace is the first claim of docs/CLAIMS.md. How many ways each of its hit lookups
+visited (see 'explain --help') is compared too. That the purger's list is the
 struck-out list is checked, step by step.
 
 FILE is as for list. Exit status: 0 no difference, 1 a difference; the others are
@@ -71,6 +72,10 @@ target/bin/stepper gives them: tag, dirty, invalid, the domains whose hit map an
 fill map hold the way, and the replacement word, under true LRU also as the order
 of the ways. What changed is marked '*'. A policy step shows the sets that it
 changed.
+
+An access and a flush that are not refused also say how many ways the hit lookup
+visited: the ways of the domain's hit map, lowest first, up to and including the
+one hit, or all of them without a hit. An invalid way of the map is counted.
 
 FILE is as for list. There is colour on a terminal only, unless NO_COLOR is set.
 """

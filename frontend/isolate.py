@@ -25,7 +25,7 @@ def render(name: str, domain: int, whole: Run, struck: Run, found: Comparison, p
         f"{name}: {words.geometry(whole.trace)}, {counted(len(whole.trace.steps), 'step')}",
         f"Struck out: {counted(gone, 'step')}, the accesses and flushes of domains other than {domain}",
         "",
-        f"Steps of domain {domain} and their answers",
+        f"Steps of domain {domain}, their answers, and how many ways their lookups visited",
         *_pair_table(found.own, words.deed, first, paint),
         "",
         f"Domain {domain} at the end",
@@ -73,7 +73,7 @@ def _coloured(lines: list[str], things: list[Compared | None], paint: Paint) -> 
 def _conclusion(domain: int, differences: list[Compared]) -> list[str]:
     """Say whether there are differences, how many, and what the first ones are."""
     if not differences:
-        return [f"No difference: domain {domain} sees the same in both runs."]
+        return [f"No difference: domain {domain} sees the same in both runs, and each of its lookups visits as many ways."]
     lines = [f"{counted(len(differences), 'difference')}: domain {domain} does not see the same in both runs."]
     for place, thing in enumerate(differences[:MOST_TOLD]):
         lines.append(f"{'Next' if place else 'First'} difference: {_sentence(thing)}")

@@ -1,4 +1,4 @@
-"""The stepper's stream, taken apart: the maps, and the rows that each step changed.
+"""The stepper's stream, taken apart: the maps, how many ways each step's lookup visited, and the rows that each step changed.
 
 A block has the row of an access's or a flush's set, and all rows for a policy change; the rows that are as they were are
 left out here."""
@@ -8,11 +8,12 @@ import struct
 from dataclasses import dataclass, replace
 
 from frontend.errors import MachineFailure
+from frontend.numbers import counted
 from frontend.tracefile import Trace
 
 DOMAINS = 16
 _MAPS = struct.Struct(f"<{2 * DOMAINS}H")
-_PLACE = struct.Struct("<HH")
+_PLACE = struct.Struct("<HHH")
 
 
 @dataclass(frozen=True)
@@ -27,11 +28,14 @@ class Row:
 
 @dataclass(frozen=True)
 class Block:
-    """What stands after a step: each domain's maps, the set of the step's argument, and the rows that changed."""
+    """What stands after a step: each domain's maps, the set of the step's argument, and the rows that changed.
+
+    `visited` is how many ways the step's lookup visited; it is 0 where the step made none."""
 
     hit: tuple[int, ...]
     fill: tuple[int, ...]
     set: int
+    visited: int
     rows: dict[int, Row]
 
 
@@ -51,6 +55,9 @@ def parse(data: bytes, trace: Trace) -> list[Block]:
     named = {number for block in blocks for number in (block.set, *block.rows)}
     if list(blocks[0].rows) != list(range(trace.sets)) or max(named) >= trace.sets:
         raise _misfit(f"its rows are not those of {trace.sets} sets")
+    most = max(block.visited for block in blocks)
+    if most > trace.ways:
+        raise _misfit(f"a lookup visited {counted(most, 'way')}, and the trace has {counted(trace.ways, 'way')}")
     return blocks
 
 
@@ -71,7 +78,7 @@ def _block(data: bytes, offset: int, ways: int) -> tuple[Block, int]:
     """Take one block off a stream; give it and the offset of the next."""
     maps = _MAPS.unpack_from(data, offset)
     offset += _MAPS.size
-    place, count = _PLACE.unpack_from(data, offset)
+    place, count, visited = _PLACE.unpack_from(data, offset)
     offset += _PLACE.size
     form = struct.Struct(f"<HHHQ{ways}Q")
     rows = {}
@@ -79,4 +86,4 @@ def _block(data: bytes, offset: int, ways: int) -> tuple[Block, int]:
         number, valid, dirty, word, *tags = form.unpack_from(data, offset)
         rows[number] = Row(valid, dirty, word, tuple(tags))
         offset += form.size
-    return Block(maps[::2], maps[1::2], place, rows), offset
+    return Block(maps[::2], maps[1::2], place, visited, rows), offset

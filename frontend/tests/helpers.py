@@ -79,10 +79,10 @@ def random_trace(source: random.Random, count: int) -> Trace:
     return Trace(pick(16, (1, 64, 256)), pick(8, (2, 4, 8, 16)), pick(8, (0, 1, 2)), steps)
 
 
-def block(maps: dict[int, tuple[int, int]], place: int = 0, rows: dict[int, Row] | None = None) -> bytes:
+def block(maps: dict[int, tuple[int, int]], place: int = 0, rows: dict[int, Row] | None = None, visited: int = 0) -> bytes:
     """Write one block of a stepper stream."""
     words = [word for domain in range(16) for word in maps.get(domain, (0, 0))]
-    data = struct.pack("<32H", *words) + struct.pack("<HH", place, len(rows or {}))
+    data = struct.pack("<32H", *words) + struct.pack("<HHH", place, len(rows or {}), visited)
     for number, row in (rows or {}).items():
         data += struct.pack(f"<HHHQ{len(row.tags)}Q", number, row.valid, row.dirty, row.word, *row.tags)
     return data

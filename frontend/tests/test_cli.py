@@ -56,6 +56,11 @@ class Help(InFolder):
             for line in helptext.EXAMPLES[command]:
                 self.assertIn(f"\n  {line}\n", out.decode())
 
+    def test_explain_says_what_the_number_of_ways_is(self):
+        said = " ".join(call("explain", "--help")[1].decode().split())
+        number = "the ways of the domain's hit map, lowest first, up to and including the one hit, or all of them without a hit."
+        self.assertIn(f"how many ways the hit lookup visited: {number} An invalid way of the map is counted.", said)
+
     def test_examples_that_need_no_program(self):
         os.symlink(programs.ROOT / "examples", self.folder / "examples")
         for line in helptext.EXAMPLES["show"]:

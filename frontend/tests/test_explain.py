@@ -2,6 +2,7 @@
 from __future__ import annotations
 
 import os
+import re
 import unittest
 from unittest import mock
 
@@ -52,6 +53,7 @@ class CaseA(unittest.TestCase):
   evict 0 0 1
   A miss: the line with tag 0 was evicted from way 0 (dirty, so it is written back), and the way was
   filled.
+  The lookup visited 2 ways.
      set 0  before                 after                     hit map   fill map
   *  way 0  tag 0, dirty           tag 2                     domain 0  domain 0
      way 1  tag 1                  tag 1                     domain 0  domain 0
@@ -69,8 +71,13 @@ class CaseA(unittest.TestCase):
         self.assertNotIn("way 0", step)
 
     def test_hit_changes_nothing(self):
-        self.assertIn("hit 0\n  A hit in way 0.", self.step(8))
+        self.assertIn("hit 0\n  A hit in way 0.\n  The lookup visited 1 way.\n", self.step(8))
         self.assertNotIn("*", self.step(8))
+
+    def test_ways_visited(self):
+        said = {place: re.findall(r"\n  The lookup visited (.*)\.\n", self.step(place)) for place in range(9)}
+        two = ["2 ways"]
+        self.assertEqual(said, {0: [], 1: [], 2: two, 3: two, 4: two, 5: two, 6: two, 7: [], 8: ["1 way"]})
 
 
 class TrueLru(unittest.TestCase):
@@ -88,6 +95,7 @@ class TrueLru(unittest.TestCase):
  domain 0 loads at 0xc0
   evict 1 1 0
   A miss: the line with tag 1 was evicted from way 1 (not dirty), and the way was filled.
+  The lookup visited 3 ways.
      set 0  before                         after                          hit map   fill map
      way 0  tag 0                          tag 0                          domain 0  domain 0
   *  way 1  tag 1                          tag 3                          domain 0  domain 0

@@ -54,21 +54,15 @@ MADE = block({0: (1, 1)}) + block(BOTH)
 WHOLE_STREAM = b"".join(
     (
         FRESH + MADE,
-        block(BOTH, 0, {0: Row(2, 0, 1, (0, 0))}),
-        block(BOTH, 0, {0: Row(3, 0, 0, (0, 0))}),
+        block(BOTH, 0, {0: Row(2, 0, 1, (0, 0))}, 1),
+        block(BOTH, 0, {0: Row(3, 0, 0, (0, 0))}, 1),
         block(BOTH),
-        block(BOTH, 0, {0: Row(1, 0, 0, (0, 0))}),
-        block(BOTH, 0, {0: Row(1, 0, 0, (1, 0))}),
+        block(BOTH, 0, {0: Row(1, 0, 0, (0, 0))}, 1),
+        block(BOTH, 0, {0: Row(1, 0, 0, (1, 0))}, 1),
     )
 )
-STRUCK_STREAM = b"".join(
-    (
-        FRESH + MADE,
-        block(BOTH, 0, {0: Row(1, 0, 2, (0, 0))}),
-        block(BOTH),
-        block(BOTH, 0, {0: Row(1, 0, 2, (1, 0))}),
-    )
-)
+STRUCK_LAST = block(BOTH, 0, {0: Row(1, 0, 2, (1, 0))}, 1)
+STRUCK_STREAM = b"".join((FRESH + MADE, block(BOTH, 0, {0: Row(1, 0, 2, (0, 0))}, 1), block(BOTH), STRUCK_LAST))
 
 
 def run_of(trace: Trace, listed: bytes, stream: bytes) -> Run:
@@ -99,24 +93,49 @@ class Compare(unittest.TestCase):
         self.assertEqual([pair.seen[0] for pair in found.others], ["accepted", "refused 8"])
         told = self.rendered()
         self.assertIn("Struck out: 2 steps", told)
-        self.assertIn("No difference: domain 0 sees the same in both runs.", told)
+        self.assertIn("No difference: domain 0 sees the same in both runs, and each of its lookups visits as many ways.\n", told)
         self.assertNotIn("*", told)
-        self.assertRegex(told, r"\n +6 +4 +loads at 0x40 +evict 0 0 0 +evict 0 0 0\n")
+        self.assertRegex(told, r"\n +0 +0 +asks for .* +policy 0 0 +policy 0 0\n")
+        self.assertRegex(told, r"\n +6 +4 +loads at 0x40 +evict 0 0 0, 1 way visited +evict 0 0 0, 1 way visited\n")
         self.assertRegex(told, r"\n +line of the listing +domain 0 0 2 1 0 0 +domain 0 0 2 1 0 0\n")
 
     def test_different_answer(self):
         listed = STRUCK_LISTING.replace(b"2 fill 0", b"2 hit 0").replace(b"4 evict 0 0 0", b"4 evict 0 0 1")
         told = self.rendered(listed)
-        self.assertRegex(told, r"\n\* +3 +2 +loads at 0x0 +fill 0 +hit 0 +<- first difference\n")
-        self.assertRegex(told, r"\n\* +6 +4 +loads at 0x40 +evict 0 0 0 +evict 0 0 1\n")
+        self.assertRegex(told, r"\n\* +3 +2 +loads at 0x0 +fill 0, 1 way visited +hit 0, 1 way visited +<- first difference\n")
+        self.assertRegex(told, r"\n\* +6 +4 +loads at 0x40 +evict 0 0 0, 1 way visited +evict 0 0 1, 1 way visited\n")
         self.assertEqual(told.count("<- first difference"), 1)
         self.assertIn(
             "First difference: step 3 (2 in the struck-out run), domain 0 loads at 0x0: "
-            "'fill 0' in the whole run, 'hit 0' in the struck-out run.\n",
+            "'fill 0, 1 way visited' in the whole run, 'hit 0, 1 way visited' in the struck-out run.\n",
             told,
         )
         self.assertIn("\n2 differences: domain 0 does not see the same in both runs.\n", told)
-        self.assertIn("\nNext difference: step 6 (4 in the struck-out run), domain 0 loads at 0x40: 'evict 0 0 0'", told)
+        self.assertIn("\nNext difference: step 6 (4 in the struck-out run), domain 0 loads at 0x40: 'evict 0 0 0, 1", told)
+
+    def test_different_number_of_ways_visited(self):
+        stream = STRUCK_STREAM[: -len(STRUCK_LAST)] + block(BOTH, 0, {0: Row(1, 0, 2, (1, 0))}, 2)
+        self.assertEqual([pair.places for pair in self.found(stream=stream).differences()], [(6, 4)])
+        told = self.rendered(stream=stream)
+        self.assertRegex(told, r"\n\* +6 +4 .* +evict 0 0 0, 1 way visited +evict 0 0 0, 2 ways visited +<- first difference\n")
+        self.assertIn("\n1 difference: domain 0 does not see the same in both runs.\n", told)
+        self.assertIn(
+            "First difference: step 6 (4 in the struck-out run), domain 0 loads at 0x40: "
+            "'evict 0 0 0, 1 way visited' in the whole run, 'evict 0 0 0, 2 ways visited' in the struck-out run.\n",
+            told,
+        )
+
+    def test_a_lookup_in_one_run_alone(self):
+        stream = STRUCK_STREAM[: -len(STRUCK_LAST)] + block(BOTH, 0, {0: Row(1, 0, 2, (1, 0))})
+        first = self.found(stream=stream).differences()[0]
+        self.assertEqual(first.seen, ("evict 0 0 0, 1 way visited", "evict 0 0 0"))
+
+    def test_ways_visited_for_another_domain_may_differ(self):
+        fewer = block(BOTH, 0, {0: Row(2, 0, 1, (0, 0))}, 1)
+        more = block(BOTH, 0, {0: Row(2, 0, 1, (0, 0))}, 2)
+        self.assertEqual(WHOLE_STREAM.count(fewer), 1)
+        whole = run_of(WHOLE, WHOLE_LISTING, WHOLE_STREAM.replace(fewer, more))
+        self.assertEqual(compare(whole, run_of(STRUCK, STRUCK_LISTING, STRUCK_STREAM), 0).differences(), [])
 
     def test_different_verdict_on_another_domain(self):
         told = self.rendered(STRUCK_LISTING.replace(b"3 refused 8", b"3 policy 0 0"))
@@ -138,14 +157,12 @@ class Compare(unittest.TestCase):
         self.assertIn("First difference: at the end, line of the listing:", told)
 
     def test_different_line_in_its_way(self):
-        stream = STRUCK_STREAM[: -len(block(BOTH, 0, {0: Row(1, 0, 2, (1, 0))}))]
-        stream += block(BOTH, 0, {0: Row(1, 1, 2, (1, 0))})
+        stream = STRUCK_STREAM[: -len(STRUCK_LAST)] + block(BOTH, 0, {0: Row(1, 1, 2, (1, 0))}, 1)
         first = self.found(stream=stream).differences()[0]
         self.assertEqual((first.name, first.seen), ("set 0 way 0", ("tag 1", "tag 1, dirty")))
 
     def test_different_map(self):
-        stream = STRUCK_STREAM[: -len(block(BOTH, 0, {0: Row(1, 0, 2, (1, 0))}))]
-        stream += block({0: (1, 0), 1: (2, 2)}, 0, {0: Row(1, 0, 2, (1, 0))})
+        stream = STRUCK_STREAM[: -len(STRUCK_LAST)] + block({0: (1, 0), 1: (2, 2)}, 0, {0: Row(1, 0, 2, (1, 0))}, 1)
         first = self.found(stream=stream).differences()[0]
         self.assertEqual((first.name, first.seen), ("fill map", ("way0", "none")))
 
@@ -233,12 +250,16 @@ class Command(unittest.TestCase):
     """The command with programs that answer by rote."""
 
     def isolate(
-        self, struck_listing: bytes, kept: tuple[Step, ...] = STRUCK.steps, said_parts: tuple[bytes, bytes] = (b"0\n", b"0\n")
+        self,
+        struck_listing: bytes,
+        kept: tuple[Step, ...] = STRUCK.steps,
+        said_parts: tuple[bytes, bytes] = (b"0\n", b"0\n"),
+        struck_stream: bytes = STRUCK_STREAM,
     ) -> tuple[int, bytes, str]:
         whole, struck_file = tracefile.encode(WHOLE), tracefile.encode(STRUCK)
         said = {
             "lister": {whole: WHOLE_LISTING, struck_file: struck_listing}.__getitem__,
-            "stepper": {whole: WHOLE_STREAM, struck_file: STRUCK_STREAM}.__getitem__,
+            "stepper": {whole: WHOLE_STREAM, struck_file: struck_stream}.__getitem__,
             "purger": lambda data, domain: {(whole, 0): lines_of(kept)}[data, domain],
             "parts": lambda entries: {PARTS_ASKED[0]: said_parts[0], PARTS_ASKED[1]: said_parts[1]}[entries],
         }
@@ -260,6 +281,12 @@ class Command(unittest.TestCase):
         self.assertEqual((status, err), (1, ""))
         self.assertIn(b"own replacement data of set 0", out)
         self.assertIn(b"'0x0' in the whole run, '0x1' in the struck-out run", out)
+
+    def test_ways_visited_that_differ(self):
+        stream = STRUCK_STREAM[: -len(STRUCK_LAST)] + block(BOTH, 0, {0: Row(1, 0, 2, (1, 0))}, 2)
+        status, out, err = self.isolate(STRUCK_LISTING, struck_stream=stream)
+        self.assertEqual((status, err), (1, ""))
+        self.assertIn(b"'evict 0 0 0, 1 way visited' in the whole run, 'evict 0 0 0, 2 ways visited' in the struck-out run", out)
 
     def test_parts_that_are_not_whole(self):
         for answer in (b"", b"0", b"0\n0\n", b"refused 5\n", b"-1\n", b"\n", b"\xff\n"):
@@ -305,7 +332,7 @@ class TrueLru(unittest.TestCase):
     def test_no_difference(self):
         status, out = self.isolate((true_lru.OWN, true_lru.OWN))
         self.assertEqual(status, 0, out)
-        self.assertIn("No difference: domain 0 sees the same in both runs.", out)
+        self.assertIn("No difference: domain 0 sees the same in both runs, ", out)
         self.assertRegex(out, r"\n +own replacement data +oldest first 2 0 1 +oldest first 2 0 1\n")
 
     def test_another_order(self):

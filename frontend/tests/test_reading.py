@@ -96,6 +96,7 @@ class Streams(unittest.TestCase):
         self.assertEqual(len(blocks), 10)
         self.assertEqual(blocks[1].hit[:3], (3, 0, 0))
         self.assertEqual(blocks[2].fill[:3], (3, 12, 0))
+        self.assertEqual([block.visited for block in blocks], [0, 0, 0, 2, 2, 2, 2, 2, 0, 1])
         self.assertEqual(blocks[6].rows, {0: Row(7, 0, 6, (2, 1, 0, 0))})
         self.assertEqual(stepper.rows_at_end(blocks), {0: Row(5, 0, 6, (2, 1, 0, 0))})
 
@@ -104,6 +105,7 @@ class Streams(unittest.TestCase):
         rows = {0: Row(0, 0, 0, (0, 0)), 1: Row(0, 0, 0, (0, 0))}
         fresh, after = block({}, 0, rows), block({}, 1, {1: Row(1, 0, 0, (9, (1 << 64) - 1))})
         self.assertEqual(len(stepper.parse(fresh + after, trace)), 2)
+        self.assertEqual(stepper.parse(fresh + block({}, visited=2), trace)[1].visited, 2)
         for data, reason in (
             (b"", "breaks off within block 0 of 2"),
             (fresh, "breaks off within block 1 of 2"),
@@ -112,6 +114,8 @@ class Streams(unittest.TestCase):
             (after + fresh, "not those of 2 sets"),
             (fresh + block({}, 2), "not those of 2 sets"),
             (fresh + block({}, 0, {7: rows[0]}), "not those of 2 sets"),
+            (fresh + block({}, visited=3), "a lookup visited 3 ways, and the trace has 2 ways"),
+            (block({}, 0, rows, 65535) + after, "a lookup visited 65,535 ways"),
         ):
             with self.assertRaises(MachineFailure) as caught:
                 stepper.parse(data, trace)

@@ -3,13 +3,14 @@ from __future__ import annotations
 
 import os
 import random
+import re
 import shlex
 import subprocess
 import tempfile
 import unittest
 from pathlib import Path
 
-from frontend import helptext, listing, programs, run, stepper, struck, tracefile, words
+from frontend import helptext, listing, maps, programs, run, stepper, struck, tracefile, words
 from frontend.tests import case_a, true_lru
 from frontend.tests.helpers import call, needs_programs, random_trace, start
 from frontend.tracefile import Step, Trace
@@ -17,9 +18,11 @@ from frontend.tracefile import Step, Trace
 EXAMPLES = sorted((programs.ROOT / "examples").glob("*.txt"))
 
 
-def busy_trace(source: random.Random, count: int, rules: tuple[int, ...] = (0, 1, 2)) -> Trace:
-    """Make a trace within the limits whose steps are mostly accepted."""
-    ways, domains, tops = source.choice((2, 4, 8, 16)), (0, 1, 15), (63, 255, 1023)
+def busy_trace(
+    source: random.Random, count: int, rules: tuple[int, ...] = (0, 1, 2), tops: tuple[int, ...] = (63, 255, 1023)
+) -> Trace:
+    """Make a trace within the limits that has steps of every kind; `tops` are the highest lines, and low ones are hit often."""
+    ways, domains = source.choice((2, 4, 8, 16)), (0, 1, 15)
     steps = []
     for _ in range(count):
         word = source.getrandbits(ways) & source.getrandbits(ways)
@@ -218,6 +221,13 @@ class Examples(unittest.TestCase):
         for number in numbers:
             self.assertIn(b"# %d: " % number, text)
 
+    def test_ways_visited_are_those_that_the_text_says(self):
+        path = programs.ROOT / "examples" / "lookup-order.txt"
+        status, out, _ = call("explain", str(path))
+        visited = re.findall(r"\n  The lookup visited ([0-9]+ ways?)\.\n", out.decode())
+        self.assertEqual((status, visited), (0, re.findall("# ([0-9]+ ways?)", path.read_text(encoding="ascii"))))
+        self.assertEqual([int(said.split()[0]) for said in visited], [4, 4, 4, 1, 3, 2, 3, 4, 2, 2, 2])
+
     def test_isolate_and_explain(self):
         for path in EXAMPLES:
             for domain in range(4):
@@ -253,6 +263,20 @@ class Random(unittest.TestCase):
                 before, after = taken.blocks[place], taken.blocks[place + 1]
                 if answer.word == "refused":
                     self.assertEqual((after.hit, after.fill, after.rows), (before.hit, before.fill, {}))
+
+    def test_ways_visited(self):
+        source, hits = random.Random(13), []
+        for _ in range(12):
+            taken = run.take("random", tracefile.encode(busy_trace(source, 200, tops=(3,))))
+            due = [0]
+            for block, step, answer in zip(taken.blocks, taken.trace.steps, taken.listing.answers):
+                ways = [] if answer.word in ("policy", "refused") else maps.members(block.hit[step.domain])
+                if answer.word in ("hit", "flush"):
+                    ways = ways[: ways.index(answer.fields[0]) + 1]
+                    hits.append(len(ways))
+                due.append(len(ways))
+            self.assertEqual([block.visited for block in taken.blocks], due)
+        self.assertGreater(max(hits), 3)
 
     def test_any_trace_is_listed(self):
         source = random.Random(10)
