@@ -57,9 +57,9 @@ struck out (by target/bin/purger), and show side by side what DOMAIN sees: the
 answers to its steps; at the end its line of the listing, its maps, the lines in
 its ways and its own replacement data (by target/bin/parts); and whether the
 policy changes of other domains are accepted. That these are equal for every
-trace is the first claim of docs/CLAIMS.md. How many ways each of its hit lookups
-visited (see 'explain --help') is compared too. That the purger's list is the
-struck-out list is checked, step by step.
+trace is the first claim of docs/CLAIMS.md; how many ways each of its hit lookups
+visited (see 'explain --help') is equal by another, 'Lookups in both runs'. That
+the purger's list is the struck-out list is checked, step by step.
 
 FILE is as for list. Exit status: 0 no difference, 1 a difference; the others are
 those of 'dipperlock --help'.
