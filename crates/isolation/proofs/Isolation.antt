@@ -1,13 +1,13 @@
 -- The struck-out run, as one theorem.
-use mathlib.Core.Path.{_≡_, refl, ap₂}
-use mathlib.Core.Bool.{true, false, _&&_, and-false}
-use mathlib.Core.List.{List, [], _∷_}
+use mathlib.Core.Path.{_≡_, refl, sym, ap, ap₂, _∙_}
+use mathlib.Core.Bool.{Bool, true, false, not, _&&_, and-false}
+use mathlib.Core.List.{List, [], _∷_, map}
 use Prim.Native.Nat.{ℕ, _<_}
 use native.Mathlib.Omega.{arith}
 use lib.Dec.{eqb, ltb}
 use borrow.Author.Tests.{ne-eqb}
 use Rattle.waymap.specs.Bits.{bit}
-use Rattle.waymap.proofs.Booleans.{cases}
+use Rattle.waymap.proofs.Booleans.{cases, and-left}
 use Rattle.waymap.proofs.BitLaws.{bit-none}
 use Rattle.waymap.proofs.WordLaws.{bit-word}
 use Rattle.policy.specs.Policy.{asRead}
@@ -23,7 +23,8 @@ use Rattle.command.specs.Command.{Command}
 use Rattle.steps.specs.Run.{stepOn, answersOf, finally}
 use Rattle.steps.specs.Fresh.{fresh}
 use Rattle.purge.specs.Purge.{belongs, keeps, purge}
-use Rattle.isolation.specs.StruckOut.{answersTo, ownAnswers, verdicts, SameTo, StruckOut}
+use Rattle.isolation.specs.StruckOut.{answersTo, ownAnswers, numberOf, verdicts, SameTo, StruckOut}
+use Rattle.isolation.specs.Lookups.{along}
 use Rattle.steps.proofs.RunLaws.{fresh-whole, fresh-domain}
 use Rattle.isolation.proofs.Relation.{Related}
 use Rattle.isolation.proofs.RowUnwinding.{rule, view-same}
@@ -45,7 +46,7 @@ module _ (g : Geometry) (limits : within g ≡ true) (d : ℕ) (low : d < 16) wh
   unfolding policies asRead
   no-fill e w = rw (fresh-domain g limits e, bit-word 16 (λ (v : ℕ). bit 0 v && (bit 0 v && ltb v (g .ways))) w, bit-none w) (and-false (ltb w 16))
 
-  fresh-related : Related g d (fresh g) (fresh g)
+  pub fresh-related : Related g d (fresh g) (fresh g)
   fresh-related = record {
     whole-a = fresh-whole g limits;
     whole-b = fresh-whole g limits;
@@ -61,35 +62,57 @@ module _ (g : Geometry) (limits : within g ≡ true) (d : ℕ) (low : d < 16) wh
 
   -- ---- a list of steps and its purge, from related states
 
+  -- What is said of steps that are never struck out, and is the same in related states, is the same along both.
+  module _ {A : Type 0} (p : Command → Bool) (f : Command → State → A) (kept : (c : Command) → keeps d c ≡ false → p c ≡ false)
+      (same : (a b : State) → Related g d a b → (c : Command) → p c ≡ true → f c a ≡ f c b) where
+    pub along-from : (cs : List Command) (a b : State) → Related g d a b → along g p f cs a ≡ along g p f (purge d cs) b
+    unfolding along purge
+    along-from [] a b rel = refl
+    along-from (c ∷ cs) a b rel =
+        cases (keeps d c)
+        (λ t. let next = along-from cs (stepOn g c a .state) (stepOn g c b .state) (step-consistent g limits d low a b rel c t) in
+        rw t (cases (p c) (λ u. rw u (ap₂ _∷_ (same a b rel c u) next)) (λ u. rw u next)))
+        (λ t. rw (t, kept c t) (along-from cs (stepOn g c a .state) b (locally-respects g limits d low a b rel c t)))
+
+  -- the answers, and what is made of them
+  answers-along : (p : Command → Bool) (cs : List Command) (s : State)
+      → answersTo p cs (answersOf g cs s) ≡ along g p (λ c t. stepOn g c t .answer) cs s
+  unfolding answersTo answersOf along
+  answers-along p [] s = refl
+  answers-along p (c ∷ cs) s = rw (answers-along p cs (stepOn g c s .state))
+
+  numbers-along : (p : Command → Bool) (cs : List Command) (s : State)
+      → map numberOf (along g p (λ c t. stepOn g c t .answer) cs s) ≡ along g p (λ c t. numberOf (stepOn g c t .answer)) cs s
+  unfolding along
+  numbers-along p [] s = refl
+  numbers-along p (c ∷ cs) s =
+      cases (p c)
+      (λ t. rw (t, ← (numbers-along p cs (stepOn g c s .state))))
+      (λ t. rw t (numbers-along p cs (stepOn g c s .state)))
+
   answers-from : (cs : List Command) (a b : State) → Related g d a b → ownAnswers g d cs a ≡ ownAnswers g d (purge d cs) b
-  unfolding ownAnswers answersTo answersOf purge
-  answers-from [] a b rel = refl
-  answers-from (c ∷ cs) a b rel =
-      cases (keeps d c)
-      (λ t. rw t
-      (cases (belongs d c)
-      (λ u. rw u (ap₂ _∷_ (output-consistent g limits d low a b rel c u)
-      (answers-from cs (stepOn g c a .state) (stepOn g c b .state) (step-consistent g limits d low a b rel c t))))
-      (λ u. rw u (answers-from cs (stepOn g c a .state) (stepOn g c b .state) (step-consistent g limits d low a b rel c t)))))
-      (λ t. rw (t, struck d c t .other) (answers-from cs (stepOn g c a .state) b (locally-respects g limits d low a b rel c t)))
+  unfolding ownAnswers
+  answers-from cs a b rel =
+      answers-along (belongs d) cs a
+      ∙ along-from (belongs d) (λ c s. stepOn g c s .answer) (λ c t. struck d c t .other) (output-consistent g limits d low) cs a b rel
+      ∙ sym (answers-along (belongs d) (purge d cs) b)
+
+  abbrev policy-of-another : Command → Bool
+  policy-of-another c = eqb (c .kind) 16 && not (belongs d c)
 
   verdicts-from : (cs : List Command) (a b : State) → Related g d a b → verdicts g d cs a ≡ verdicts g d (purge d cs) b
-  unfolding verdicts answersTo answersOf purge
-  verdicts-from [] a b rel = refl
-  verdicts-from (c ∷ cs) a b rel =
-      cases (keeps d c)
-      (λ t. rw t
-      (cases (eqb (c .kind) 16)
-      (λ u. rw u
-      (cases (belongs d c)
-      (λ v. rw v (verdicts-from cs (stepOn g c a .state) (stepOn g c b .state) (step-consistent g limits d low a b rel c t)))
-      (λ v. rw v (ap₂ _∷_ (verdict-consistent g limits d low a b rel c u)
-      (verdicts-from cs (stepOn g c a .state) (stepOn g c b .state) (step-consistent g limits d low a b rel c t))))))
-      (λ u. rw u (verdicts-from cs (stepOn g c a .state) (stepOn g c b .state) (step-consistent g limits d low a b rel c t)))))
-      (λ t. rw (t, ne-eqb (c .kind) 16 (λ e. omega (arith, struck d c t .kind, e)))
-      (verdicts-from cs (stepOn g c a .state) b (locally-respects g limits d low a b rel c t)))
+  unfolding verdicts
+  verdicts-from cs a b rel =
+      said cs a
+      ∙ along-from policy-of-another (λ c s. numberOf (stepOn g c s .answer)) (λ c t. rw (ne-eqb (c .kind) 16 (λ e. omega (arith, struck d c t .kind, e))))
+      (λ x y r c t. verdict-consistent g limits d low x y r c (and-left (eqb (c .kind) 16) (not (belongs d c)) t)) cs a b rel
+      ∙ sym (said (purge d cs) b)
+    where
+      said : (ds : List Command) (s : State)
+          → map numberOf (answersTo policy-of-another ds (answersOf g ds s)) ≡ along g policy-of-another (λ c t. numberOf (stepOn g c t .answer)) ds s
+      said ds s = ap (map numberOf) (answers-along policy-of-another ds s) ∙ numbers-along policy-of-another ds s
 
-  finally-from : (cs : List Command) (a b : State) → Related g d a b → Related g d (finally g cs a) (finally g (purge d cs) b)
+  pub finally-from : (cs : List Command) (a b : State) → Related g d a b → Related g d (finally g cs a) (finally g (purge d cs) b)
   unfolding finally purge
   finally-from [] a b rel = rel
   finally-from (c ∷ cs) a b rel =
@@ -98,7 +121,7 @@ module _ (g : Geometry) (limits : within g ≡ true) (d : ℕ) (low : d < 16) wh
       (λ t. rw t (finally-from cs (stepOn g c a .state) b (locally-respects g limits d low a b rel c t)))
 
   -- related states are the same to the domain
-  same-to : (a b : State) → Related g d a b → SameTo g d a b
+  pub same-to : (a b : State) → Related g d a b → SameTo g d a b
   same-to a b rel = record {
     domain = rel .domain-same;
     sets = λ s h. view-same g l d low (policies (g .ways) (a .domains)) (policy-cut (g .ways) (a .domains)) (rel .separate) (rowAt (g .ways) s (a .tables))

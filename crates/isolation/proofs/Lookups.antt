@@ -1,8 +1,9 @@
--- Lookups in the run and in the struck-out run: from the theorem, since a lookup depends on the domain's maps and its lines alone.
+-- Lookups in the run and in the struck-out run: a lookup depends on the domain's maps and on its lines alone, which related states have alike.
 use mathlib.Core.Path.{_≡_, sym, _∙_}
 use mathlib.Core.Bool.{true}
 use mathlib.Core.List.{List}
 use Prim.Native.Nat.{ℕ, _<_}
+use borrow.Author.Tests.{eqb-true}
 use Rattle.waymap.specs.Bits.{bit}
 use Rattle.policy.specs.Policy.{asRead}
 use Rattle.row.specs.Row.{Row, ways}
@@ -18,46 +19,55 @@ use Rattle.steps.specs.Tables.{rowAt}
 use Rattle.steps.specs.Step.{State}
 use Rattle.steps.specs.Run.{finally}
 use Rattle.steps.specs.Fresh.{fresh}
-use Rattle.steps.proofs.RunLaws.{run-kept}
 use Rattle.steps.proofs.SetLaws.{row-long}
 use Rattle.command.specs.Command.{Command}
-use Rattle.purge.specs.Purge.{purge}
-use Rattle.isolation.specs.StruckOut.{SameTo}
-use Rattle.isolation.specs.Lookups.{lookupAt, visitedAt, SameLookups}
-use Rattle.isolation.proofs.Isolation.{isolation}
+use Rattle.purge.specs.Purge.{belongs, purge}
+use Rattle.purge.proofs.KeepLaws.{struck}
+use Rattle.isolation.specs.Lookups.{lookupAt, visitedAt, visitsOf, ownVisits, SameLookups}
+use Rattle.isolation.proofs.Relation.{Related}
+use Rattle.isolation.proofs.Unwinding.{output-consistent}
+use Rattle.isolation.proofs.Isolation.{fresh-related, along-from, finally-from, same-to}
 
-module _ (g : Geometry) (limits : within g ≡ true) (d : ℕ) (low : d < 16) (cs : List Command) (address : ℕ) where
-  abbrev whole : State
-  whole = finally g cs (fresh g)
+module _ (g : Geometry) (limits : within g ≡ true) (d : ℕ) (low : d < 16) (a b : State) (rel : Related g d a b) where
+  -- a lookup of the domain tells the same in both
+  module _ (address : ℕ) where
+    abbrev row : State → Row
+    row s = rowAt (g .ways) (setOf g address) (s .tables)
 
-  abbrev struck : State
-  struck = finally g (purge d cs) (fresh g)
+    inside : setOf g address < g .sets
+    inside = set-below g address (limited g limits)
 
-  abbrev row : State → Row
-  row s = rowAt (g .ways) (setOf g address) (s .tables)
+    long : ways (row a) ≡ g .ways
+    long = row-long g (rel .whole-a .shaped) (setOf g address) inside
 
-  inside : setOf g address < g .sets
-  inside = set-below g address (limited g limits)
+    lines : (w : ℕ) → bit (asRead (ways (row a)) (mapsOf (domainOf (a .domains) d)) .hit) w ≡ true → SameLine (row a) (row b) w
+    unfolding policies
+    lines w t = same-to g limits d low a b rel .sets (setOf g address) inside .lines w (rw long at t)
 
-  long : (ds : List Command) → ways (row (finally g ds (fresh g))) ≡ g .ways
-  long ds = row-long g (run-kept g limits ds .whole .shaped) (setOf g address) inside
+    lookup-related : (lookupAt g d address a ≡ lookupAt g d address b) × (visitedAt g d address a ≡ visitedAt g d address b)
+    unfolding lookupAt visitedAt
+    lookup-related =
+        rw (← (rel .domain-same))
+        (lookup-same (mapsOf (domainOf (a .domains) d)) (tagOf g address) (row a) (row b)
+        (long ∙ sym (row-long g (rel .whole-b .shaped) (setOf g address) inside)) lines)
 
-  to-domain : SameTo g d whole struck
-  to-domain = isolation g limits d low cs .finally-same
+  -- so a step of its own visits as many ways
+  visits-related : (c : Command) → belongs d c ≡ true → visitsOf g c a ≡ visitsOf g c b
+  unfolding visitsOf
+  visits-related c u =
+      rw (output-consistent g limits d low a b rel c u, eqb-true (c .domain) d u, lookup-related (c .argument) .1)
 
-  lines : (w : ℕ) → bit (asRead (ways (row whole)) (mapsOf (domainOf (whole .domains) d)) .hit) w ≡ true → SameLine (row whole) (row struck) w
-  unfolding policies
-  lines w t = to-domain .sets (setOf g address) inside .lines w (rw (long cs) at t)
-
-  lookups-are : (lookupAt g d address whole ≡ lookupAt g d address struck) × (visitedAt g d address whole ≡ visitedAt g d address struck)
-  unfolding lookupAt visitedAt
-  lookups-are =
-      rw (← (to-domain .domain))
-      (lookup-same (mapsOf (domainOf (whole .domains) d)) (tagOf g address) (row whole) (row struck) (long cs ∙ sym (long (purge d cs))) lines)
-
--- The chosen domain's lookups, of any address and after any list of steps, answer the same and visit as many ways as in the struck-out run.
+-- The chosen domain's steps, in the run of any list and in its struck-out run, visit as many ways, and its lookups after both, of any address, are the
+-- same.
 pub lookups : (g : Geometry) → within g ≡ true → (d : ℕ) → d < 16 → (cs : List Command) → SameLookups g d cs
+unfolding ownVisits
 lookups g limits d low cs = record {
-  answer-same = λ address. lookups-are g limits d low cs address .0;
-  visited-same = λ address. lookups-are g limits d low cs address .1;
+  visits-same =
+      along-from g limits d low (belongs d) (visitsOf g) (λ c t. struck d c t .other) (visits-related g limits d low) cs (fresh g) (fresh g)
+      (fresh-related g limits d low);
+  answer-same = λ address. lookup-related g limits d low (finally g cs (fresh g)) (finally g (purge d cs) (fresh g)) related address .0;
+  visited-same = λ address. lookup-related g limits d low (finally g cs (fresh g)) (finally g (purge d cs) (fresh g)) related address .1;
 }
+  where
+    related : Related g d (finally g cs (fresh g)) (finally g (purge d cs) (fresh g))
+    related = finally-from g limits d low cs (fresh g) (fresh g) (fresh-related g limits d low)

@@ -14,7 +14,7 @@ use Rattle.command.specs.Command.{Command}
 use Rattle.steps.specs.Run.{answersOf, finally}
 use Rattle.steps.specs.Fresh.{fresh}
 use Rattle.purge.specs.Purge.{keeps, purge}
-use Rattle.isolation.specs.Lookups.{visitedAt}
+use Rattle.isolation.specs.Lookups.{visitedAt, visitsOf, along, ownVisits}
 use Rattle.isolation.specs.StruckOut.{answersTo, ownAnswers, numberOf, verdicts}
 use Rattle.steps.proofs.Computing.{computing, does, both}
 
@@ -107,8 +107,12 @@ record OtherOrder : Type 0 where
 
 -- ---- lookups: how many ways they visit depends on accesses, and the domain's not on its neighbour's
 
--- Domain 0 has line 2 in way 0 and line 1 in way 1 in both runs. The neighbour's line 2 is in its way 2 in one run and nowhere in the other.
+-- Of the first list, domain 0's steps visit no way (a policy), two each for two fills, an eviction and a flush of its second way, one for a hit in its
+-- first, none, and three, its ways by then, for the last fill. After the list under true LRU it has line 2 in way 0 and line 1 in way 1 in both runs. The
+-- neighbour's line 2 is in its way 2 in one run and nowhere in the other.
 record OtherLookups : Type 0 where
+  own : ownVisits small 0 steps (fresh small) ≡ 0 ∷ 2 ∷ 2 ∷ 2 ∷ 2 ∷ 1 ∷ 0 ∷ 3 ∷ []
+  own-struck : ownVisits small 0 (purge 0 steps) (fresh small) ≡ 0 ∷ 2 ∷ 2 ∷ 2 ∷ 2 ∷ 1 ∷ 0 ∷ 3 ∷ []
   first : (visitedAt ordered 0 128 turned ≡ 1) × (visitedAt ordered 0 128 turnedStruck ≡ 1)
   second : (visitedAt ordered 0 64 turned ≡ 2) × (visitedAt ordered 0 64 turnedStruck ≡ 2)
   neighbour : (visitedAt ordered 1 128 turned ≡ 1) × (visitedAt ordered 1 128 turnedStruck ≡ 2)
@@ -128,7 +132,7 @@ record Verdicts : Type 0 where
 
 -- each of these holds by the definitions alone
 computed : NotEmpty × OtherWays × OtherBits × OtherDrops × Verdicts × OtherOrder × OtherLookups
-unfolding visitedAt answersTo ownAnswers verdicts numberOf purge keeps computing
+unfolding visitedAt visitsOf along ownVisits answersTo ownAnswers verdicts numberOf purge keeps computing
 computed = (
   record { dropped = (refl, refl); works = refl; neighbour = refl; neighbour-struck = refl; handed-over = refl },
   record { run = refl; purged = refl },
@@ -136,7 +140,7 @@ computed = (
   record { run = refl; purged = refl },
   record { run = refl; own = refl },
   record { run = refl; purged = refl; pair = (refl, refl); own-pair = (refl, refl); own-part = (refl, refl); works = refl; works-struck = refl },
-  record { first = (refl, refl); second = (refl, refl); neighbour = (refl, refl) },
+  record { own = refl; own-struck = refl; first = (refl, refl); second = (refl, refl); neighbour = (refl, refl) },
 )
 
 not-empty : NotEmpty

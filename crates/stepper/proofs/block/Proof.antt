@@ -46,7 +46,9 @@ returns : tie.Need-returns
 returns c = search needs
 
 take-requires : tie.Need-take-requires
-take-requires c κs = let e = entry (c .before .before .before .before .before .before .before .before .before .before .before .before .before .before .before) in (e .pre .0, e .pre .1 .0)
+take-requires c κs =
+    let spanned = c .before .before .before .before .before .before .before .before .before .before .before .before .before .before .before in
+    (entry spanned .pre .0, entry spanned .pre .1 .0)
 
 same-length-6 : tie.Need-same-length-6
 same-length-6 c = c .before .before .before .before .before .before .before .before .take .kept .1 .1 .1 .1 .0
