@@ -5,10 +5,10 @@ use Prim.Native.Nat.{ℕ}
 use Rattle.steps.proofs.Computing.{computing}
 use Rattle.cases.specs.Case.{Case}
 use Rattle.cases.specs.Orders.{orders}
-use Rattle.cases.specs.Visits.{visited}
+use Rattle.cases.specs.Visits.{lookups}
 use Rattle.cases.specs.Lent.{lent}
 use Rattle.cases.specs.Cases.{cases}
 
 pub worked : (u : ℕ) → map (λ (c : Case). c .given) (cases u) ≡ map (λ (c : Case). c .printed) (cases u)
-unfolding computing orders visited lent cases
+unfolding computing orders lookups lent cases
 worked u = refl

@@ -13,7 +13,7 @@ use Rattle.steps.specs.Run.{answersOf}
 use Rattle.steps.specs.Fresh.{fresh}
 use Rattle.cases.specs.Case.{Case}
 use Rattle.cases.specs.Orders.{orders}
-use Rattle.cases.specs.Visits.{visited}
+use Rattle.cases.specs.Visits.{lookups}
 use Rattle.cases.specs.Lent.{lent}
 
 -- A bit as a number.
@@ -64,4 +64,4 @@ cases u =
     -- I: "NRU, map 6, word 0: victim way 1; after its touch bits 1 and 2 are 0 and 1"
     ∷ record { given = nru 8 .victim 6 0 ∷ nru 8 .touch 6 1 (nru 8 .before 6 0) ∷ []; printed = 1 ∷ 4 ∷ [] }
     -- job 1's, job 2's, and our own
-    ∷ (orders ++ (visited ++ lent))
+    ∷ (orders ++ (lookups ++ lent))

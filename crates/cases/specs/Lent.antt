@@ -11,9 +11,9 @@ use Rattle.domains.specs.declared.Domain.{Domain}
 use Rattle.steps.specs.Step.{State, Outcome, tablesOf}
 use Rattle.steps.specs.Run.{stepOn}
 use Rattle.steps.specs.Fresh.{fresh}
-use Rattle.cases.specs.Case.{Case}
+use Rattle.cases.specs.Case.{Case, hit, fill, evict, pass, flush, absent, policy, refused}
 
--- ---- Caches, steps and answers
+-- ---- Caches and steps
 
 -- S sets of W ways, under Tree-PLRU, under NRU and under true LRU.
 abbrev plru : ℕ → ℕ → Geometry
@@ -44,31 +44,6 @@ takes d hitMap fillMap = record { domain = d; kind = 16; argument = hitMap + 655
 -- The address of a line. In a cache of one set a line's number is its tag.
 abbrev line : ℕ → ℕ
 line n = 64 * n
-
--- Document 01's words, numbered from 0 in its order, and their fields.
-abbrev hit : ℕ → List ℕ
-hit way = 0 ∷ way ∷ []
-
-abbrev fill : ℕ → List ℕ
-fill way = 1 ∷ way ∷ []
-
-abbrev evict : ℕ → ℕ → ℕ → List ℕ
-evict way tag dirty = 2 ∷ way ∷ tag ∷ dirty ∷ []
-
-abbrev pass : List ℕ
-pass = 3 ∷ []
-
-abbrev flush : ℕ → ℕ → List ℕ
-flush way dirty = 4 ∷ way ∷ dirty ∷ []
-
-abbrev absent : List ℕ
-absent = 5 ∷ []
-
-abbrev policy : ℕ → ℕ → List ℕ
-policy dropped dirty = 6 ∷ dropped ∷ dirty ∷ []
-
-abbrev refused : ℕ → List ℕ
-refused number = 7 ∷ number ∷ []
 
 -- ---- States
 
