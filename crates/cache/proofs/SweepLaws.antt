@@ -2,8 +2,8 @@
 use mathlib.Core.Path.{_≡_, refl, ap, ap₂, subst, _∙_}
 use mathlib.Core.Bool.{_&&_}
 use Prim.Native.Nat.{ℕ, zero, suc, _+_, _*_, _^_, _≤_, _<_}
-use native.Mathlib.Nat.{lt-of-le-of-lt}
-use native.Mathlib.Numerals.{add-one}
+use native.Mathlib.Nat.{lt-of-le-of-lt, le-trans, mul-le-mul-left}
+use native.Mathlib.Numerals.{add-one, add-one-le}
 use native.Mathlib.Omega.{arith}
 use lib.Dec.{lit<}
 use lib.ListN.{length}
@@ -22,6 +22,7 @@ use Rattle.sweep.proofs.DropLaws.{added-fits}
 use Rattle.sweep.specs.declared.Sweep.{Sweep}
 use Rattle.policy.specs.declared.Maps.{Maps}
 use Rattle.command.specs.declared.Answer.{Answer}
+use Rattle.geometry.specs.Geometry.{maxSets}
 use Rattle.geometry.specs.declared.Geometry.{Geometry}
 use Rattle.steps.specs.Tables.{Tables, rowAt, putRow, eachSet, total}
 use Rattle.steps.specs.Inside.{Shaped}
@@ -88,7 +89,7 @@ module _ (g : Geometry) (sweep : Sweep) (before after : Tables) (h : Shaped g be
     -- the sums stay far below the largest number
     sums-are : addedTo (record { dropped = dropped; dirty = dirt }) a ≡ record { dropped = dropped + dropsIn a .dropped; dirty = dirt + dropsIn a .dirty }
     sums-are =
-        let sets : 16 * (s + 1) ≤ 4096 = omega (arith, h .limited .most-sets) in
+        let sets : 16 * (s + 1) ≤ 16 * maxSets = mul-le-mul-left 16 (le-trans (add-one-le k) (h .limited .most-sets)) in
         let room : 16 * (s + 1) < 2 ^ 64 = lt-of-le-of-lt sets (lit< tt) in
         added-fits (record { dropped = dropped; dirty = dirt }) a (lt-of-le-of-lt (more .0) room) (lt-of-le-of-lt (more .1) room)
 

@@ -17,7 +17,7 @@ use Rattle.waymap.proofs.NumberLaws as NumberLaws
 use Rattle.nru.specs.Nru as Nru
 use Rattle.replacement.specs.Rule.{ruleOf}
 use Rattle.replacement.specs.Calls.{inLimits}
-use Rattle.geometry.specs.Geometry.{isPower, within}
+use Rattle.geometry.specs.Geometry.{maxSets, isPower, within}
 use Rattle.geometry.specs.declared.Geometry.{Geometry}
 use Rattle.geometry.proofs.GeometryLaws.{limited}
 use Rattle.steps.specs.Fresh as Fresh
@@ -52,7 +52,7 @@ unfolding within isPower inLimits
 within-limits g l =
     rw (
       power,
-      le-leb (g .sets) 256 (omega (arith, l .sets-most)),
+      le-leb (g .sets) maxSets (omega (arith, l .sets-most)),
       ways-are g l,
       lt-ltb (g .rule) 3 (omega (arith, l .rule-known)),
     )
@@ -66,7 +66,7 @@ within-limits g l =
 pub limits-within : (g : Geometry) → within g ≡ true → Limits g
 unfolding within isPower inLimits
 limits-within g e =
-    let power = any-found 64 (λ (k : ℕ). eqb (g .sets) (2 ^ k)) (and-left (isPower (g .sets)) (leb (g .sets) 256) front) in
+    let power = any-found 64 (λ (k : ℕ). eqb (g .sets) (2 ^ k)) (and-left (isPower (g .sets)) (leb (g .sets) maxSets) front) in
     let ways = NumberLaws.sized (g .ways) (and-left (isWays (g .ways)) (ltb (g .rule) 3) rest) in
     record {
       sets-log = power .0;
@@ -79,11 +79,11 @@ limits-within g e =
       rule-known = ltb-true (g .rule) 3 (and-right (isWays (g .ways)) (ltb (g .rule) 3) rest);
     }
   where
-    front : (isPower (g .sets) && leb (g .sets) 256) ≡ true
-    front = and-left (isPower (g .sets) && leb (g .sets) 256) (inLimits (g .ways) (g .rule)) e
+    front : (isPower (g .sets) && leb (g .sets) maxSets) ≡ true
+    front = and-left (isPower (g .sets) && leb (g .sets) maxSets) (inLimits (g .ways) (g .rule)) e
 
     rest : inLimits (g .ways) (g .rule) ≡ true
-    rest = and-right (isPower (g .sets) && leb (g .sets) 256) (inLimits (g .ways) (g .rule)) e
+    rest = and-right (isPower (g .sets) && leb (g .sets) maxSets) (inLimits (g .ways) (g .rule)) e
 
 -- ---- a fresh cache
 

@@ -1,5 +1,6 @@
 -- Document 01, "The struck-out run", for a reader who knows nothing of how the product is built. Used of the product are `step`, the definition
--- that the contract of the cache's `step` cites, and the records of numbers and lists that a step takes and gives; the rest is written out here.
+-- that the contract of the cache's `step` cites, the records of numbers and lists that a step takes and gives, and the one number of sets that
+-- limits them, `maxSets`; the rest is written out here.
 use mathlib.Core.Path.{_≡_}
 use mathlib.Core.Bool.{Bool, true, cond, not, _&&_}
 use mathlib.Core.List.{List, [], _∷_}
@@ -7,6 +8,7 @@ use Prim.Native.Nat.{ℕ, zero, suc, _+_, _-_, _*_, _^_, _≤_, _<_}
 use lib.Dec.{eqb, ltb}
 use lib.ListN.{length, getD, replicate}
 use Rattle.command.specs.Command.{Command}
+use Rattle.geometry.specs.Geometry.{maxSets}
 use Rattle.geometry.specs.declared.Geometry.{Geometry}
 use Rattle.domains.specs.declared.Domain.{Domain}
 use Rattle.steps.specs.Step.{State, step}
@@ -19,7 +21,7 @@ use Rattle.demand.specs.Order.{freshWord, isOrder, placeOf}
 pub record Limits (g : Geometry) : Type 0 where
   pub sets-log : ℕ
   pub sets-power : g .sets ≡ 2 ^ sets-log
-  pub sets-most : g .sets ≤ 256
+  pub sets-most : g .sets ≤ maxSets
   pub ways-log : ℕ
   pub ways-power : g .ways ≡ 2 ^ ways-log
   pub ways-least : 2 ≤ g .ways

@@ -2,7 +2,7 @@
 use mathlib.Core.Path.{_≡_, sym, ap, _∙_}
 use mathlib.Core.Bool.{Bool, true, false, _&&_, _||_, and-false, or-false}
 use Prim.Native.Nat.{ℕ, zero, suc, _-_, _*_, _/_, _%_, _^_, _≤_, _<_}
-use native.Mathlib.Nat.{suc-ne-zero, mul-le-mul-left, le-trans, pow-suc, lt-of-le-of-lt}
+use native.Mathlib.Nat.{suc-ne-zero, mul-le-mul-left, mul-le-mul-right, le-trans, pow-suc, lt-of-le-of-lt}
 use native.Mathlib.Omega.{arith}
 use lib.Dec.{eqb, leb, lit<}
 use lib.Bits.{bitAnd, and-step, and-self}
@@ -102,8 +102,12 @@ limited g e =
 
 -- ---- the rows of all sets
 
+-- as many tags as a table for n sets has
+pub rows-fit : {n : ℕ} (g : Geometry) → Limited g → g .sets ≤ n → g .sets * g .ways ≤ n * 16
+rows-fit g l h = le-trans (mul-le-mul-left (g .sets) (l .most-ways)) (mul-le-mul-right 16 h)
+
 pub rows-bound : (g : Geometry) → Limited g → g .sets * g .ways ≤ maxSets * 16
-rows-bound g l = le-trans (mul-le-mul-left (g .sets) (l .most-ways)) (omega (arith, l .most-sets))
+rows-bound g l = rows-fit g l (l .most-sets)
 
 -- ---- numbers 1 and 2
 

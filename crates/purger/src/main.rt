@@ -3,6 +3,7 @@
 // nothing. An argument that is no number below 16, and a failed read or write, are told on standard error.
 use libc::STDERR_FILENO;
 use libc::STDOUT_FILENO;
+use tracefile::MAX_STEPS;
 ghost use Prim.Native.Nat.{_≤_};
 ghost use lib.ListN.{length};
 
@@ -120,13 +121,13 @@ fn purge(
 fn lend(file: &[u8], domain: usize) -> bool {
     let n = tracefile::steps(file);
     let steps = n as usize;
-    if 4096 < steps {
+    if MAX_STEPS < steps {
         return false;
     }
-    let mut codes = [0u16; 4096];
-    let mut arguments = [0u64; 4096];
-    let mut kept_codes = [0u16; 4096];
-    let mut kept_arguments = [0u64; 4096];
+    let mut codes = [0u16; MAX_STEPS];
+    let mut arguments = [0u64; MAX_STEPS];
+    let mut kept_codes = [0u16; MAX_STEPS];
+    let mut kept_arguments = [0u64; MAX_STEPS];
     purge(
         file,
         n,

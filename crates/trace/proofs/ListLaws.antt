@@ -17,7 +17,7 @@ use Rattle.geometry.proofs.GeometryLaws.{limited, rows-bound}
 use Rattle.steps.specs.Tables.{Tables, lengths}
 use Rattle.steps.specs.Step.{tablesOf}
 use Rattle.tracefile.proofs.FileLaws.{Accepted, accepted}
-use Rattle.tracefile.specs.File.{geometryOf, stepCount, stepsOf, fileRefusal}
+use Rattle.tracefile.specs.File.{maxSteps, geometryOf, stepCount, stepsOf, fileRefusal}
 use Rattle.listing.specs.Listing.{refusedLine, runLines, listing}
 use Rattle.trace.specs.Calls.{Listed, listedOf, onto, ontoTables, lastTables, listOf}
 use Rattle.trace.specs.Inside.{Written, writtenOf, append, ListedBy, listedBy, listingBy, Roomy}
@@ -28,7 +28,7 @@ use Rattle.trace.proofs.TextLaws.{piece-end}
 -- Room in the tables for the geometry of a file that is not refused, and in the output for its listing.
 pub record Fitting (g : Geometry) (n : ℕ) (t : Tables) (out : List ℕ) : Type 0 where
   pub stands : within g ≡ true
-  pub few-steps : n ≤ 4096
+  pub few-steps : n ≤ maxSteps
   pub cells : g .sets * g .ways ≤ 4096
   pub tags-room : g .sets * g .ways ≤ length (t .tags)
   pub valid-room : g .sets ≤ length (t .valid)

@@ -15,7 +15,7 @@ use Rattle.steps.specs.Step.{State, Outcome}
 use Rattle.steps.specs.Tables.{Tables, lengths}
 use Rattle.steps.specs.Fresh.{freshTables, freshDomains, fresh}
 use Rattle.fresh.specs.Calls.{Made, madeOf, freshOf}
-use Rattle.tracefile.specs.File.{commandAt, lastSteps}
+use Rattle.tracefile.specs.File.{maxSteps, commandAt, lastSteps}
 use Rattle.listing.specs.Listing.{decimal, line, told, answerLines, headLine, domainLines, runLines}
 use Rattle.trace.specs.Inside.{Written, writtenOf, append, runTo, ListedBy, listedBy, endOn, ranBy, listingBy}
 use Rattle.trace.proofs.TextLaws.{append-append, append-none, piece-long}
@@ -104,14 +104,14 @@ run-ended {g} {file} {n} {s₀} {s} {out₀} {out} {last} {at} p h d e =
 
 -- ---- the whole listing
 
--- An output of 393,216 bytes has room for the first line, the lines of 4,096 steps and those of the domains.
+-- An output of 393,216 bytes has room for the first line, the lines of as many steps as a file may have and those of the domains.
 pub room-for-head : {long : ℕ} → 393216 ≤ long → 0 + 84 ≤ long
 room-for-head l = omega arith
 
-pub room-for-lines : {head n now long : ℕ} → head ≤ 84 → now ≡ long → n ≤ 4096 → 393216 ≤ long → head + (92 * n + 2128) ≤ now
+pub room-for-lines : {head n now long : ℕ} → head ≤ 84 → now ≡ long → n ≤ maxSteps → 393216 ≤ long → head + (92 * n + 2128) ≤ now
 room-for-lines h e s l = omega arith
 
-pub listing-short : {r head n : ℕ} → r ≤ head + (92 * n + 2128) → head ≤ 84 → n ≤ 4096 → r ≤ 393216
+pub listing-short : {r head n : ℕ} → r ≤ head + (92 * n + 2128) → head ≤ 84 → n ≤ maxSteps → r ≤ 393216
 listing-short r h s = omega arith
 
 fresh-is : (g : Geometry) (t new : Tables) (n : ℕ) → within g ≡ true → sized g (lengths t) ≡ true → madeOf n new ≡ freshOf g t → new ≡ freshTables g

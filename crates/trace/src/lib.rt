@@ -13,7 +13,7 @@ ghost use Rattle.io.specs.Counts.{Counts};
 ghost use Rattle.geometry.specs.Geometry.{within, sized};
 ghost use Rattle.steps.specs.Step.{tablesOf};
 ghost use Rattle.steps.specs.Tables.{lengths};
-ghost use Rattle.tracefile.specs.File.{fileRefusal};
+ghost use Rattle.tracefile.specs.File.{maxSteps, fileRefusal};
 ghost use Rattle.trace.specs.Calls.{listedOf, listOf};
 ghost use Rattle.trace.specs.Inside.{writtenOf, listedBy, ranBy, listingBy, Roomy};
 
@@ -75,7 +75,7 @@ fn listing(
 ) -> usize
     requires { ⌜ within g ≡ true ⌝ }
     requires { ⌜ sized g (lengths (tablesOf (now tags) (now valid) (now dirty) (now words))) ≡ true ⌝ }
-    requires { ⌜ steps ≤ 4096 ⌝ }
+    requires { ⌜ steps ≤ maxSteps ⌝ }
     requires { ⌜ 393216 ≤ length (now out) ⌝ }
     ensures { λ r. ⌜
         listedBy (tablesOf (now (tags .exit)) (now (valid .exit)) (now (dirty .exit)) (now (words .exit))) (writtenOf r (now (out .exit)))

@@ -83,11 +83,11 @@ module _ (file : List ℕ) {n : ℕ} (named : n ≡ stepCount file) (long : 8 �
   unfolding fileRefusal badFile
   bad-length e = rw (le-ltb (length file) 8 long, ← named, ne-eqb (length file) (8 + 10 * n) e)
 
-  pub bad-steps : length file ≡ 8 + 10 * n → 4096 < n → 10 ≡ fileRefusal file
+  pub bad-steps : length file ≡ 8 + 10 * n → maxSteps < n → 10 ≡ fileRefusal file
   unfolding fileRefusal badFile
   bad-steps e m = rw (le-ltb (length file) 8 long, ← named, eq-eqb (length file) (8 + 10 * n) e, lt-ltb maxSteps n m)
 
-  pub good-file : {g : Geometry} {stands : Bool} → length file ≡ 8 + 10 * n → n ≤ 4096 → g ≡ geometryOf file → stands ≡ within g
+  pub good-file : {g : Geometry} {stands : Bool} → length file ≡ 8 + 10 * n → n ≤ maxSteps → g ≡ geometryOf file → stands ≡ within g
       → cond (not stands) 1 0 ≡ fileRefusal file
   unfolding fileRefusal badFile
   good-file e m is w =
@@ -99,7 +99,7 @@ module _ (file : List ℕ) {n : ℕ} (named : n ≡ stepCount file) (long : 8 �
 pub record Accepted (file : List ℕ) : Type 0 where
   pub long : 8 ≤ length file
   pub whole : length file ≡ 8 + 10 * stepCount file
-  pub short : stepCount file ≤ 4096
+  pub short : stepCount file ≤ maxSteps
   pub limits : within (geometryOf file) ≡ true
 
 pub accepted : (file : List ℕ) → fileRefusal file ≡ 0 → Accepted file

@@ -36,7 +36,7 @@ lastSteps file n i (suc k) = commandAt file n i ∷ lastSteps file n (i + 1) k
 abbrev pub stepsOf : List ℕ → List Command
 stepsOf file = lastSteps file (stepCount file) 0 (stepCount file)
 
--- The most steps of a trace.
+-- The most steps of a file.
 abbrev pub maxSteps : ℕ
 maxSteps = 4096
 

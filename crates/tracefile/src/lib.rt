@@ -7,8 +7,8 @@ ghost use lib.ListN.{length, getD};
 ghost use Rattle.command.specs.Command.{commandIs};
 ghost use Rattle.tracefile.specs.File.{field as fieldOf, geometryOf, stepCount, commandAt, fileRefusal};
 
-// The most steps of a trace.
-const MAX_STEPS: usize = 4096;
+// The most steps of a file.
+pub const MAX_STEPS: usize = 4096;
 
 // A byte of the file; 0 behind its end.
 fn byte(file: &[u8], at: usize) -> u64
