@@ -1,8 +1,16 @@
-// Cases A, J, K and L of document 01, runs under true LRU, which document 02's job 1 makes rule 2, and the file on standard input, which is
-// one byte longer than the longest, listed by the public call. Cases B to I and those of job 1 are shown of the rules themselves, in
-// proofs/Worked.antt.
+// Cases A, J, K and L of document 01, case J as document 02's job 3 has it; runs under true LRU, which its job 1 makes rule 2; a cache of the most
+// lines that there may be, all of them dropped at once; and the file on standard input, which is one byte longer than the longest, listed by
+// the public call. Cases B to I and those of job 1 are shown of the rules themselves, in proofs/Worked.antt.
+use cache::Stepped;
+use command::Answer;
+use command::Command;
+use geometry::Geometry;
+use geometry::MAX_SETS;
 use libc::STDOUT_FILENO;
+use trace::TAGS;
+ghost use Prim.Native.Nat.{_≤_};
 ghost use Rattle.io.specs.Counts.{Counts};
+ghost use Rattle.geometry.specs.Geometry.{maxSets};
 
 // How many bytes the first line has.
 fn line_length(text: &[u8]) -> usize
@@ -30,10 +38,10 @@ fn put(text: &[u8], whole: bool) {
 
 // Writes the listing of a file, or its first line alone.
 fn show(file: &[u8], whole: bool) {
-    let mut tags = [0u64; 4096];
-    let mut valid = [0u16; 256];
-    let mut dirty = [0u16; 256];
-    let mut words = [0u64; 256];
+    let mut tags = [0u64; TAGS];
+    let mut valid = [0u16; tracefile::MAX_SETS];
+    let mut dirty = [0u16; tracefile::MAX_SETS];
+    let mut words = [0u64; tracefile::MAX_SETS];
     let mut out = [0u8; 393216];
     let length = trace::list(
         file,
@@ -58,11 +66,89 @@ fn case_a() {
     );
 }
 
-// "S = 256 stands, 257 and 512 are refused 1"
+// Writes a space and a number.
+fn put_field(n: usize) {
+    io::write_all(STDOUT_FILENO, b" ");
+    io::print_decimal(STDOUT_FILENO, n as u64);
+}
+
+// Writes the answer to a change of policy, and the line's end.
+fn put_answer(answer: Answer) {
+    match answer {
+        Answer::Policy { dropped, dirty } => {
+            io::write_all(STDOUT_FILENO, b"policy");
+            put_field(dropped);
+            put_field(dirty);
+        }
+        Answer::Refused(number) => {
+            io::write_all(STDOUT_FILENO, b"refused");
+            put_field(number);
+        }
+        _ => {}
+    }
+    io::write_all(STDOUT_FILENO, b"\n");
+}
+
+// How many of the named sets there is room for.
+fn lent(sets: usize) -> usize
+    ensures { λ r. ⌜ r ≤ maxSets ⌝ }
+{
+    if MAX_SETS < sets {
+        return MAX_SETS;
+    }
+    sets
+}
+
+// Calls for a change of policy, by which domain 0 takes way 0 of a fresh cache of 2 ways under rule 0, and writes the number of sets and the
+// answer. As many sets are lent, or all that there may be.
+fn call(sets: usize) {
+    let mut tags = [0u64; 2 * MAX_SETS];
+    let mut valid = [0u16; MAX_SETS];
+    let mut dirty = [0u16; MAX_SETS];
+    let mut words = [0u64; MAX_SETS];
+    let rows = lent(sets);
+    let cells = 2 * rows;
+    let stepped = cache::step(
+        Geometry {
+            sets,
+            ways: 2,
+            rule: 0,
+        },
+        &mut tags[0..cells],
+        &mut valid[0..rows],
+        &mut dirty[0..rows],
+        &mut words[0..rows],
+        fresh::fresh_domains(),
+        0,
+        16,
+        0x10001,
+    );
+    let answer = stepped.answer;
+    io::print_decimal(STDOUT_FILENO, sets as u64);
+    io::write_all(STDOUT_FILENO, b" ");
+    put_answer(answer);
+}
+
+// Lists a file without steps that names so many sets of 2 ways.
+fn naming(sets: u16) {
+    show(
+        &[(sets % 256) as u8, (sets / 256) as u8, 2, 0, 0, 0, 0, 0],
+        true,
+    );
+}
+
+// "4,096 stands, 257 and 8,192 are refused 1 by a call, and a file naming 257 is refused 10". So are others that name more than 256
+// sets; those that name 0 or 3 are refused 1.
 fn case_j() {
-    show(&[0u8, 1, 2, 0, 0, 0, 0, 0], true);
-    show(&[1u8, 1, 2, 0, 0, 0, 0, 0], true);
-    show(&[0u8, 2, 2, 0, 0, 0, 0, 0], true);
+    call(4096);
+    call(257);
+    call(8192);
+    naming(256);
+    naming(257);
+    naming(512);
+    naming(4096);
+    naming(0);
+    naming(3);
 }
 
 // "domain 15 stands, 16 is refused 3": each takes way 0.
@@ -127,6 +213,71 @@ fn true_lru() {
     show(&[1u8, 0, 4, 3, 0, 0, 0, 0], true);
 }
 
+// Call i of domain 0 on the most lines that there may be: it takes all ways, stores to each line, and is removed.
+fn nth(i: u64) -> Command {
+    if i == 0 {
+        return Command {
+            domain: 0,
+            kind: 16,
+            argument: 0xffffffff,
+        };
+    }
+    if i <= 65536 {
+        return Command {
+            domain: 0,
+            kind: 2,
+            argument: 64 * (i - 1),
+        };
+    }
+    Command {
+        domain: 0,
+        kind: 16,
+        argument: 0,
+    }
+}
+
+// Makes these calls on fresh tables, and answers what the last one does.
+fn calls(
+    tags: &mut [u64; 16 * MAX_SETS],
+    valid: &mut [u16; MAX_SETS],
+    dirty: &mut [u16; MAX_SETS],
+    words: &mut [u64; MAX_SETS],
+) -> Answer {
+    let g = Geometry {
+        sets: MAX_SETS,
+        ways: 16,
+        rule: 0,
+    };
+    let mut last = Stepped {
+        answer: Answer::Absent,
+        domains: fresh::fresh_domains(),
+    };
+    for i in 0..65538 {
+        let command = nth(i);
+        last = cache::step(
+            g,
+            tags,
+            valid,
+            dirty,
+            words,
+            last.domains,
+            command.domain as usize,
+            command.kind,
+            command.argument,
+        );
+    }
+    last.answer
+}
+
+// 4,096 sets of 16 ways: the removal drops 65,536 lines, all dirty.
+fn every_line() {
+    let mut tags = [0u64; 16 * MAX_SETS];
+    let mut valid = [0u16; MAX_SETS];
+    let mut dirty = [0u16; MAX_SETS];
+    let mut words = [0u64; MAX_SETS];
+    put_answer(calls(&mut tags, &mut valid, &mut dirty, &mut words));
+}
+
 // A file of 4,096 steps, and one byte more.
 fn longer() {
     let mut file = [0u8; 40969];
@@ -146,6 +297,8 @@ fn main() {
     case_l();
     io::write_all(STDOUT_FILENO, b"true LRU\n");
     true_lru();
+    io::write_all(STDOUT_FILENO, b"every line dropped\n");
+    every_line();
     io::write_all(STDOUT_FILENO, b"one byte more than the longest\n");
     longer();
 }

@@ -17,7 +17,8 @@ use Rattle.demand.specs.Order.{freshWord, isOrder, placeOf}
 
 -- ---- Geometry, and a fresh cache
 
--- "Sets S: a power of two, 1 to 256. Ways W: 2, 4, 8 or 16. Rule: 0 Tree-PLRU, 1 NRU", and true LRU is rule 2.
+-- "Sets S: a power of two", and by document 02, job 3, "S goes up to 4,096". "Ways W: 2, 4, 8 or 16. Rule: 0 Tree-PLRU, 1 NRU", and true LRU is
+-- rule 2.
 pub record Limits (g : Geometry) : Type 0 where
   pub sets-log : ℕ
   pub sets-power : g .sets ≡ 2 ^ sets-log

@@ -1,7 +1,8 @@
 -- The set and tag of an address.
 use mathlib.Core.Path.{_≡_}
 use Prim.Native.Nat.{ℕ, _/_, _<_}
-use native.Mathlib.Nat.{mod-lt, mod-zero, div-zero}
+use native.Mathlib.Nat.{mod-lt, mod-zero, div-zero, lt-of-lt-of-le}
+use Rattle.geometry.specs.Geometry.{maxSets}
 use Rattle.geometry.specs.Address.{setOf, tagOf, placeOf}
 use Rattle.geometry.specs.Inside.{Limited}
 use Rattle.geometry.specs.declared.Geometry.{Geometry}
@@ -15,3 +16,7 @@ no-sets g address e = rw (e, mod-zero (address / 64), div-zero (address / 64))
 pub set-below : (g : Geometry) (address : ℕ) → Limited g → setOf g address < g .sets
 unfolding setOf
 set-below g address l = mod-lt (address / 64) (l .some-set)
+
+-- and so below the most that there are: "a set below 4,096"
+pub set-most : (g : Geometry) (address : ℕ) → Limited g → setOf g address < maxSets
+set-most g address l = lt-of-lt-of-le (set-below g address l) (l .most-sets)

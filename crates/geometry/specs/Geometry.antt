@@ -7,9 +7,9 @@ use Rattle.waymap.specs.Bits.{any}
 use Rattle.replacement.specs.Calls.{inLimits}
 use Rattle.geometry.specs.declared.Geometry.{Geometry}
 
--- "Sets S: a power of two, 1 to 256."
+-- "Sets S: a power of two", from 1 up; document 02, job 3: "S goes up to 4,096."
 abbrev pub maxSets : ℕ
-maxSets = 256
+maxSets = 4096
 
 unfoldable pub isPower : ℕ → Bool
 isPower n = any 64 (λ k. eqb n (2 ^ k))

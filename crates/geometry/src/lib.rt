@@ -4,7 +4,8 @@ ghost use Rattle.geometry.specs.Geometry.{within as withinLimits, sized 
 ghost use Rattle.geometry.specs.Address.{placeOf};
 ghost use Rattle.geometry.specs.Inside.{Limited};
 
-const MAX_SETS: usize = 256;
+// The most sets of a cache.
+pub const MAX_SETS: usize = 4096;
 
 // The numbers of sets and ways, and the replacement rule.
 pub struct Geometry {
@@ -79,8 +80,10 @@ pub fn place_of(g: Geometry, address: u64) -> Place
             tag: 0,
         };
     }
+    let set = line % sets;
+    let tag = line / sets;
     Place {
-        set: (line % sets) as usize,
-        tag: line / sets,
+        set: set as usize,
+        tag,
     }
 }

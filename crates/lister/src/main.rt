@@ -2,13 +2,15 @@
 // that was not read to its end is not listed.
 use libc::STDERR_FILENO;
 use libc::STDOUT_FILENO;
+use trace::TAGS;
+use tracefile::MAX_SETS;
 
 // Lists a file, and answers whether the whole listing was written.
 fn show(file: &[u8]) -> bool {
-    let mut tags = [0u64; 4096];
-    let mut valid = [0u16; 256];
-    let mut dirty = [0u16; 256];
-    let mut words = [0u64; 256];
+    let mut tags = [0u64; TAGS];
+    let mut valid = [0u16; MAX_SETS];
+    let mut dirty = [0u16; MAX_SETS];
+    let mut words = [0u64; MAX_SETS];
     let mut out = [0u8; 393216];
     let length = trace::list(
         file,

@@ -35,14 +35,16 @@ pub case-a-listing : listing fileA ≡ listingA
 unfolding commandOf value field lastSteps badFile fileRefusal decimalBy line told answerLines domainLine domainPart domainLines runLines listing computing
 case-a-listing = refl
 
--- "A file refused by 10 or by 1 gives the one line `refused` and the number": a file of no bytes, and one of 3 sets.
+-- "A file refused by 10 or by 1 gives the one line `refused` and the number": a file of no bytes, one of 3 sets, and one of 257, which
+-- document 02's job 3 has refused by 10.
 pub record RefusedFiles : Type 0 where
   pub empty : listing [] ≡ 114 ∷ 101 ∷ 102 ∷ 117 ∷ 115 ∷ 101 ∷ 100 ∷ 32 ∷ 49 ∷ 48 ∷ 10 ∷ []
   pub three-sets : listing (3 ∷ 0 ∷ 4 ∷ 0 ∷ 0 ∷ 0 ∷ 0 ∷ 0 ∷ []) ≡ 114 ∷ 101 ∷ 102 ∷ 117 ∷ 115 ∷ 101 ∷ 100 ∷ 32 ∷ 49 ∷ 10 ∷ []
+  pub many-sets : listing (1 ∷ 1 ∷ 4 ∷ 0 ∷ 0 ∷ 0 ∷ 0 ∷ 0 ∷ []) ≡ 114 ∷ 101 ∷ 102 ∷ 117 ∷ 115 ∷ 101 ∷ 100 ∷ 32 ∷ 49 ∷ 48 ∷ 10 ∷ []
 
 pub refused-files : RefusedFiles
 unfolding any within isPower inLimits isWays value field badFile fileRefusal decimalBy line listing
-refused-files = record { empty = refl; three-sets = refl }
+refused-files = record { empty = refl; three-sets = refl; many-sets = refl }
 
 -- "`domain`, number and five counts": hits, misses, evicted, written back, flushed, here 1 to 5 of domain 7.
 pub counts-in-order : domainLine 7 (record { hits = 1; misses = 2; evicted = 3; written = 4; flushed = 5 })

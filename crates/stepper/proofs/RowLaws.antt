@@ -10,6 +10,7 @@ use mir.Val.{Fits}
 use lib.ListN.{length}
 use lib.Seq.{length-take-le}
 use Rattle.io.specs.Counts.{Counts}
+use Rattle.tracefile.specs.File.{maxFileSets}
 use Rattle.stepper.specs.Rows.{Rows}
 
 -- Fewer sets have their rows too.
@@ -26,10 +27,10 @@ rows-below {few} {sets} {ways} h r = record {
 pub set-inside : (set : ℕ) {count : ℕ} → set + 1 ≤ count → set < count
 set-inside set h = omega arith
 
-pub map-fits : {set : ℕ} → set < 256 → Fits w64 (set * 2)
+pub map-fits : {set : ℕ} → set < maxFileSets → Fits w64 (set * 2)
 map-fits h = record { fits = omega arith }
 
-pub word-fits : {set : ℕ} → set < 256 → Fits w64 (set * 8)
+pub word-fits : {set : ℕ} → set < maxFileSets → Fits w64 (set * 8)
 word-fits h = record { fits = omega arith }
 
 -- The tags of the last set lie within the table.
@@ -75,7 +76,7 @@ pub record Putting (to : ℕ) (out₀ : List ℕ) (at : ℕ) (out : List ℕ) (n
   pub behind : next ≤ at + 142 * set
   pub long : length out ≡ length out₀
 
-pub row-room : {to at next set : ℕ} {out₀ out : List ℕ} → Putting to out₀ at out next set → set < to → to ≤ 256 → at + 36352 ≤ length out₀
+pub row-room : {to at next set : ℕ} {out₀ out : List ℕ} → Putting to out₀ at out next set → set < to → to ≤ maxFileSets → at + 142 * maxFileSets ≤ length out₀
     → next + 142 ≤ length out
 row-room p h f l = omega arith
 
@@ -84,7 +85,7 @@ pub row-put : {to at next after set : ℕ} {out₀ out new : List ℕ} → Putti
 row-put p h b l = record { inside = add-one-le h; behind = omega (arith, p .behind); long = l ∙ p .long }
 
 -- The bytes up to the last row lie within the output.
-pub rows-count : {to at next set : ℕ} {out₀ out : List ℕ} → Putting to out₀ at out next set → to ≤ 256 → at + 36352 ≤ length out₀
+pub rows-count : {to at next set : ℕ} {out₀ out : List ℕ} → Putting to out₀ at out next set → to ≤ maxFileSets → at + 142 * maxFileSets ≤ length out₀
     → Counts next out
 rows-count {next = next} {out = out} p f l =
     let inside : next ≤ length out = omega arith in

@@ -3,11 +3,12 @@ use mathlib.Core.Path.{_≡_}
 use mathlib.Core.List.{List}
 use Prim.Native.Nat.{ℕ, _*_, _≤_, _<_}
 use lib.ListN.{length}
+use Rattle.tracefile.specs.File.{maxFileSets}
 
--- A geometry within the limits.
+-- A geometry within the limits of a file.
 pub record Small (sets ways : ℕ) : Type 0 where
   pub some-set : 0 < sets
-  pub few-sets : sets ≤ 256
+  pub few-sets : sets ≤ maxFileSets
   pub few-ways : ways ≤ 16
 
 -- Tables of these lengths have the rows of the sets below `sets`.

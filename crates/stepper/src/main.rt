@@ -12,10 +12,12 @@ use libc::STDERR_FILENO;
 use libc::STDOUT_FILENO;
 use policy::Maps;
 use row::Lines;
+use tracefile::MAX_SETS;
 ghost use mathlib.Core.Path.{_≡_};
 ghost use Prim.Native.Nat.{_+_, _*_, _≤_, _<_};
 ghost use lib.ListN.{length};
 ghost use Rattle.io.specs.Counts.{Counts};
+ghost use Rattle.tracefile.specs.File.{maxFileSets};
 ghost use Rattle.stepper.specs.Rows.{Small, Rows};
 
 // Puts the n low bytes of a value, and answers the place after them.
@@ -52,7 +54,7 @@ fn put_maps(domains: Domains, out: &mut [u8])
 
 // Where the tags of a set begin.
 fn start_of(set: usize, ways: usize) -> usize
-    requires { ⌜ set ≤ 256 ⌝ }
+    requires { ⌜ set ≤ maxFileSets ⌝ }
     requires { ⌜ ways ≤ 16 ⌝ }
     ensures { λ r. ⌜ r ≡ set * ways ⌝ }
     ensures { λ r. ⌜ r ≤ 16 * set ⌝ }
@@ -86,7 +88,7 @@ fn put_row(
     at: usize,
 ) -> usize
     requires { ⌜ Rows (set + 1) ways (length (now tags)) (length (now valid)) (length (now dirty)) (length (now words)) ⌝ }
-    requires { ⌜ set < 256 ⌝ }
+    requires { ⌜ set < maxFileSets ⌝ }
     requires { ⌜ ways ≤ 16 ⌝ }
     requires { ⌜ at + 142 ≤ length (now out) ⌝ }
     ensures { λ r. ⌜ r ≤ at + 142 ⌝ }
@@ -110,9 +112,9 @@ fn put_rows(
 ) -> usize
     requires { ⌜ Rows to ways (length (now tags)) (length (now valid)) (length (now dirty)) (length (now words)) ⌝ }
     requires { ⌜ from ≤ to ⌝ }
-    requires { ⌜ to ≤ 256 ⌝ }
+    requires { ⌜ to ≤ maxFileSets ⌝ }
     requires { ⌜ ways ≤ 16 ⌝ }
-    requires { ⌜ at + 36352 ≤ length (now out) ⌝ }
+    requires { ⌜ at + 142 * maxFileSets ≤ length (now out) ⌝ }
     ensures { λ r. ⌜ Counts r (now (out .exit)) ⌝ }
 {
     let mut next = at;
@@ -192,9 +194,9 @@ fn show(
 ) -> bool
     requires { ⌜ Rows (span .to) ways (length (now tags)) (length (now valid)) (length (now dirty)) (length (now words)) ⌝ }
     requires { ⌜ span .from ≤ span .to ⌝ }
-    requires { ⌜ span .to ≤ 256 ⌝ }
+    requires { ⌜ span .to ≤ maxFileSets ⌝ }
     requires { ⌜ ways ≤ 16 ⌝ }
-    requires { ⌜ 36422 ≤ length (now out) ⌝ }
+    requires { ⌜ 70 + 142 * maxFileSets ≤ length (now out) ⌝ }
 {
     let from = span.from;
     let to = span.to;
@@ -323,7 +325,7 @@ fn block(
 ) -> Shown
     requires { ⌜ Small (g .sets) (g .ways) ⌝ }
     requires { ⌜ Rows (g .sets) (g .ways) (length (now tags)) (length (now valid)) (length (now dirty)) (length (now words)) ⌝ }
-    requires { ⌜ 36422 ≤ length (now out) ⌝ }
+    requires { ⌜ 70 + 142 * maxFileSets ≤ length (now out) ⌝ }
 {
     let span = span_of(file, n, i, g);
     let domains = before.domains;
@@ -362,7 +364,7 @@ fn run(
 ) -> bool
     requires { ⌜ Small (g .sets) (g .ways) ⌝ }
     requires { ⌜ Rows (g .sets) (g .ways) (length (now tags)) (length (now valid)) (length (now dirty)) (length (now words)) ⌝ }
-    requires { ⌜ 36422 ≤ length (now out) ⌝ }
+    requires { ⌜ 70 + 142 * maxFileSets ≤ length (now out) ⌝ }
 {
     fresh::fresh_tables(g, tags, valid, dirty, words);
     let mut shown = Shown {
@@ -384,13 +386,13 @@ fn run(
 fn lend(g: Geometry, cells: usize, file: &[u8]) -> bool
     requires { ⌜ Small (g .sets) (g .ways) ⌝ }
     requires { ⌜ cells ≡ g .sets * g .ways ⌝ }
-    requires { ⌜ cells ≤ 4096 ⌝ }
+    requires { ⌜ cells ≤ 16 * maxFileSets ⌝ }
 {
-    let mut tags = [0u64; 4096];
-    let mut valid = [0u16; 256];
-    let mut dirty = [0u16; 256];
-    let mut words = [0u64; 256];
-    let mut out = [0u8; 36422];
+    let mut tags = [0u64; 16 * MAX_SETS];
+    let mut valid = [0u16; MAX_SETS];
+    let mut dirty = [0u16; MAX_SETS];
+    let mut words = [0u64; MAX_SETS];
+    let mut out = [0u8; 70 + 142 * MAX_SETS];
     let sets = g.sets;
     run(
         g,
@@ -414,7 +416,7 @@ fn show_file(file: &[u8]) -> bool {
     if sets == 0 {
         return false;
     }
-    if 256 < sets {
+    if MAX_SETS < sets {
         return false;
     }
     if 16 < ways {

@@ -1,27 +1,35 @@
 -- What a step can answer.
 use mathlib.Core.Path.{_≡_}
-use mathlib.Core.Bool.{Bool, true, false}
+use mathlib.Core.Bool.{Bool, true, false, _&&_}
 use mathlib.Core.List.{List, [], _∷_}
-use Prim.Native.Nat.{ℕ}
+use Prim.Native.Nat.{ℕ, _*_, _≤_}
+use native.Mathlib.Nat.{le-trans, le-of-eq, mul-comm}
 use native.Mathlib.Omega.{arith}
 use lib.Dec.{eqb}
-use lib.ListN.{length}
+use lib.ListN.{length, drop, length-take}
 use borrow.Author.Tests.{eqb-false}
 use Rattle.waymap.specs.Bits.{bit, any}
 use Rattle.waymap.proofs.Booleans.{cases}
+use Rattle.waymap.proofs.WayLaws.{count-le}
 use Rattle.replacement.specs.Rule.{Rule}
 use Rattle.row.specs.Row as Row
 use Rattle.row.specs.Row.{Row}
+use Rattle.policy.specs.Policy.{asRead, newMaps}
 use Rattle.policy.specs.declared.Maps.{Maps}
+use Rattle.sweep.specs.Clean.{moved, dropped, droppedDirty}
 use Rattle.command.specs.Answer.{answerOf}
 use Rattle.command.specs.Command.{Command}
 use Rattle.command.specs.Kind.{Kind, access, flush, policy, unknown, kindOf}
 use Rattle.domains.specs.Domains.{domainOf, policies}
 use Rattle.verdict.specs.Refusal.{refusal}
+use Rattle.geometry.specs.Geometry.{maxSets}
+use Rattle.geometry.specs.Inside.{Limited}
 use Rattle.geometry.specs.declared.Geometry.{Geometry}
-use Rattle.steps.specs.Tables.{lengths}
+use Rattle.geometry.proofs.GeometryLaws.{rows-bound}
+use Rattle.steps.specs.Tables.{Tables, lengths, rowAt, total}
 use Rattle.steps.specs.Step.{State, onSet, rowEffect, useLine, changePolicy, stepBy, decided, step}
 use Rattle.steps.specs.Run.{stepOn}
+use Rattle.steps.proofs.SetLaws.{total-le}
 
 -- ---- no refusal has number 0
 
@@ -78,3 +86,45 @@ policy-answer g d arg s =
   where
     number : ℕ
     number = refusal g (lengths (s .tables)) (policies (g .ways) (s .domains)) (domainOf (s .domains) d .counts) d 16 arg
+
+-- ---- how many lines a policy change can drop
+
+-- in a set no more than it has ways
+row-drops : (W i : ℕ) (old new : Maps) (t : Tables) → (dropped old new (rowAt W i t) ≤ W) × (droppedDirty old new (rowAt W i t) ≤ W)
+unfolding dropped droppedDirty rowAt
+row-drops W i old new t =
+    let r : Row = rowAt W i t in
+    let short : length (r .tags) ≤ W = omega (arith, length-take W (drop (i * W) (t .tags))) in (
+      le-trans (count-le (length (r .tags)) (λ (w : ℕ). moved old new w && bit (r .valid) w)) short,
+      le-trans (count-le (length (r .tags)) (λ (w : ℕ). moved old new w && bit (r .valid) w && bit (r .dirty) w)) short,
+    )
+
+-- in all no more than there are lines: "drop counts, now up to 65,536", whatever the tables hold
+pub drops-most : (g : Geometry) (d arg : ℕ) (s : State) → Limited g → {n m : ℕ} → step g d 16 arg s .answer ≡ 6 ∷ n ∷ m ∷ []
+    → (n ≤ maxSets * 16) × (m ≤ maxSets * 16)
+unfolding step decided kindOf stepBy changePolicy
+drops-most g d arg s l {n} {m} e =
+    cases (eqb number 0)
+    (λ t. let first : n ≡ lines (dropped old new) = cc (rw t at e) in
+    let second : m ≡ lines (droppedDirty old new) = cc (rw t at e) in (
+      le-trans (le-of-eq first) (few (dropped old new) (λ i. row-drops (g .ways) i old new (s .tables) .0)),
+      le-trans (le-of-eq second) (few (droppedDirty old new) (λ i. row-drops (g .ways) i old new (s .tables) .1)),
+    ))
+    (λ t. let z : _≡_ {A = ℕ} 7 6 = cc (rw t at e) in absurd (omega arith))
+  where
+    number : ℕ
+    number = refusal g (lengths (s .tables)) (policies (g .ways) (s .domains)) (domainOf (s .domains) d .counts) d 16 arg
+
+    old : Maps
+    old = policies (g .ways) (s .domains) d
+
+    new : Maps
+    new = asRead (g .ways) (newMaps arg)
+
+    lines : (Row → ℕ) → ℕ
+    lines f = total (g .ways) (g .sets) f (s .tables)
+
+    few : (f : Row → ℕ) → ((i : ℕ) → f (rowAt (g .ways) i (s .tables)) ≤ g .ways) → lines f ≤ maxSets * 16
+    few f h =
+        le-trans (total-le (g .ways) (g .sets) (g .ways) f (s .tables) (λ i k. h i))
+        (le-trans (le-of-eq (mul-comm (g .ways) (g .sets))) (rows-bound g l))

@@ -3,6 +3,7 @@ use mathlib.Core.Path.{_≡_, refl, sym, ap, ap₂, _∙_}
 use mathlib.Core.Bool.{true, false}
 use mathlib.Core.List.{List, _++_}
 use Prim.Native.Nat.{ℕ, _+_, _-_, _*_, _≤_}
+use native.Mathlib.Nat.{le-trans, le-of-eq}
 use native.Mathlib.Omega.{arith}
 use lib.Dec.{eqb}
 use lib.ListN.{length, take, drop, length-append}
@@ -13,11 +14,11 @@ use Rattle.io.specs.Counts.{Counts}
 use Rattle.geometry.specs.Geometry.{within, Lengths, sized}
 use Rattle.geometry.specs.Inside.{Limited}
 use Rattle.geometry.specs.declared.Geometry.{Geometry}
-use Rattle.geometry.proofs.GeometryLaws.{limited, rows-bound}
+use Rattle.geometry.proofs.GeometryLaws.{limited, rows-fit}
 use Rattle.steps.specs.Tables.{Tables, lengths}
 use Rattle.steps.specs.Step.{tablesOf}
 use Rattle.tracefile.proofs.FileLaws.{Accepted, accepted}
-use Rattle.tracefile.specs.File.{maxSteps, geometryOf, stepCount, stepsOf, fileRefusal}
+use Rattle.tracefile.specs.File.{maxSteps, maxFileSets, geometryOf, stepCount, stepsOf, fileRefusal}
 use Rattle.listing.specs.Listing.{refusedLine, runLines, listing}
 use Rattle.trace.specs.Calls.{Listed, listedOf, onto, ontoTables, lastTables, listOf}
 use Rattle.trace.specs.Inside.{Written, writtenOf, append, ListedBy, listedBy, listingBy, Roomy}
@@ -29,7 +30,7 @@ use Rattle.trace.proofs.TextLaws.{piece-end}
 pub record Fitting (g : Geometry) (n : ℕ) (t : Tables) (out : List ℕ) : Type 0 where
   pub stands : within g ≡ true
   pub few-steps : n ≤ maxSteps
-  pub cells : g .sets * g .ways ≤ 4096
+  pub cells : g .sets * g .ways ≤ maxFileSets * 16
   pub tags-room : g .sets * g .ways ≤ length (t .tags)
   pub valid-room : g .sets ≤ length (t .valid)
   pub dirty-room : g .sets ≤ length (t .dirty)
@@ -42,15 +43,16 @@ fitting file {g} {n} {t} {out} named counted z r =
     let a : Accepted file = accepted file z in
     let w : within g ≡ true = ap within named ∙ a .limits in
     let l : Limited g = limited g w in
-    let few : g .sets * g .ways ≤ 4096 = rows-bound g l in
+    let sets : g .sets ≤ maxFileSets = le-trans (le-of-eq (ap (λ (h : Geometry). h .sets) named)) (a .few-sets) in
+    let cells : g .sets * g .ways ≤ maxFileSets * 16 = rows-fit g l sets in
     record {
       stands = w;
       few-steps = omega (arith, counted, a .short);
-      cells = few;
-      tags-room = omega (arith, r .tags-long);
-      valid-room = omega (arith, r .valid-long, l .most-sets);
-      dirty-room = omega (arith, r .dirty-long, l .most-sets);
-      words-room = omega (arith, r .words-long, l .most-sets);
+      cells = cells;
+      tags-room = le-trans cells (r .tags-long);
+      valid-room = le-trans sets (r .valid-long);
+      dirty-room = le-trans sets (r .dirty-long);
+      words-room = le-trans sets (r .words-long);
       out-room = r .out-long;
     }
 

@@ -2,7 +2,7 @@
 use mathlib.Core.Bool.{cond}
 use mathlib.Core.Path.{_≡_}
 use mathlib.Core.List.{List, [], _∷_, map}
-use Prim.Native.Nat.{ℕ, _+_, _≤_}
+use Prim.Native.Nat.{ℕ, _+_, _*_, _≤_}
 use lib.Dec.{ltb}
 use lib.ListN.{length, take}
 use lib.Seq.{sets}
@@ -12,7 +12,7 @@ use Rattle.steps.specs.Run.{answersOf, finally}
 use Rattle.steps.specs.Fresh.{freshDomains, fresh}
 use Rattle.steps.specs.Tables.{Tables}
 use Rattle.steps.specs.Step.{State}
-use Rattle.tracefile.specs.File.{lastSteps}
+use Rattle.tracefile.specs.File.{maxFileSets, lastSteps}
 use Rattle.listing.specs.Listing.{decimal, answerLines, domainLines, runLines}
 use Rattle.trace.specs.declared.lines.Phrase.{Phrase}
 
@@ -73,10 +73,10 @@ unfoldable pub listingBy : Geometry → List ℕ → ℕ → List ℕ → Listed
 listingBy g file n out =
     listedBy (finally g (lastSteps file n 0 n) (fresh g) .tables) (append (runLines g (lastSteps file n 0 n) n) (writtenOf 0 out))
 
--- Room for every geometry and every listing.
+-- Room for every geometry that a file may name, and for every listing.
 pub record Roomy (t : Tables) (out : List ℕ) : Type 0 where
-  pub tags-long : 4096 ≤ length (t .tags)
-  pub valid-long : 256 ≤ length (t .valid)
-  pub dirty-long : 256 ≤ length (t .dirty)
-  pub words-long : 256 ≤ length (t .words)
+  pub tags-long : maxFileSets * 16 ≤ length (t .tags)
+  pub valid-long : maxFileSets ≤ length (t .valid)
+  pub dirty-long : maxFileSets ≤ length (t .dirty)
+  pub words-long : maxFileSets ≤ length (t .words)
   pub out-long : 393216 ≤ length out

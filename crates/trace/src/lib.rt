@@ -5,6 +5,7 @@ mod text;
 use cache::Stepped;
 use command::Answer;
 use geometry::Geometry;
+use tracefile::MAX_SETS;
 ghost use mathlib.Core.Path.{_≡_};
 ghost use mathlib.Core.Bool.{true};
 ghost use Prim.Native.Nat.{_+_, _*_, _≤_};
@@ -16,6 +17,9 @@ ghost use Rattle.steps.specs.Tables.{lengths};
 ghost use Rattle.tracefile.specs.File.{maxSteps, fileRefusal};
 ghost use Rattle.trace.specs.Calls.{listedOf, listOf};
 ghost use Rattle.trace.specs.Inside.{writtenOf, listedBy, ranBy, listingBy, Roomy};
+
+// The tags of as many sets as a file may name, of sixteen ways each.
+pub const TAGS: usize = 16 * MAX_SETS;
 
 // The lines of a file's steps, taken one after another on the tables as they are from fresh domains on, and those of the domains.
 fn run(
@@ -119,13 +123,14 @@ fn list_file(
     )
 }
 
-// Lists a file: puts its listing at the front of the output, and answers its length. The run is on the front of the tables.
+// Lists a file: puts its listing at the front of the output, and answers its length. The run is on the front of the tables, which are for as
+// many sets as a file may name: one that names more is refused by 10 before they are looked at, and leaves them.
 pub fn list(
     file: &[u8],
-    tags: &mut [u64; 4096],
-    valid: &mut [u16; 256],
-    dirty: &mut [u16; 256],
-    words: &mut [u64; 256],
+    tags: &mut [u64; TAGS],
+    valid: &mut [u16; MAX_SETS],
+    dirty: &mut [u16; MAX_SETS],
+    words: &mut [u64; MAX_SETS],
     out: &mut [u8; 393216],
 ) -> usize
     ensures { λ r. ⌜

@@ -12,7 +12,7 @@ use borrow.Author.Tests.{ltb-false, eqb-true, lt-ltb, le-ltb, eq-eqb, ne-eqb}
 use Rattle.waymap.proofs.Booleans.{cases}
 use Rattle.geometry.specs.Geometry.{within}
 use Rattle.geometry.specs.declared.Geometry.{Geometry}
-use Rattle.tracefile.specs.File.{value, field, geometryOf, stepCount, maxSteps, badFile, fileRefusal}
+use Rattle.tracefile.specs.File.{value, field, geometryOf, stepCount, maxSteps, maxFileSets, badFile, fileRefusal}
 
 -- ---- a field
 
@@ -87,12 +87,23 @@ module _ (file : List ℕ) {n : ℕ} (named : n ≡ stepCount file) (long : 8 �
   unfolding fileRefusal badFile
   bad-steps e m = rw (le-ltb (length file) 8 long, ← named, eq-eqb (length file) (8 + 10 * n) e, lt-ltb maxSteps n m)
 
-  pub good-file : {g : Geometry} {stands : Bool} → length file ≡ 8 + 10 * n → n ≤ maxSteps → g ≡ geometryOf file → stands ≡ within g
-      → cond (not stands) 1 0 ≡ fileRefusal file
-  unfolding fileRefusal badFile
-  good-file e m is w =
-      ap (λ (b : Bool). cond (not b) 1 0) (w ∙ ap within is)
-      ∙ rw (le-ltb (length file) 8 long, ← named, eq-eqb (length file) (8 + 10 * n) e, le-ltb maxSteps n m)
+  -- then the geometry that it names
+  module _ {g : Geometry} (whole : length file ≡ 8 + 10 * n) (few : n ≤ maxSteps) (is : g ≡ geometryOf file) where
+    sets-are : g .sets ≡ geometryOf file .sets
+    sets-are = ap (λ (h : Geometry). h .sets) is
+
+    pub bad-sets : maxFileSets < g .sets → 10 ≡ fileRefusal file
+    unfolding fileRefusal badFile
+    bad-sets m =
+        rw (le-ltb (length file) 8 long, ← named, eq-eqb (length file) (8 + 10 * n) whole, le-ltb maxSteps n few)
+        (rw (← sets-are, lt-ltb maxFileSets (g .sets) m))
+
+    pub good-file : {stands : Bool} → g .sets ≤ maxFileSets → stands ≡ within g → cond (not stands) 1 0 ≡ fileRefusal file
+    unfolding fileRefusal badFile
+    good-file m w =
+        ap (λ (b : Bool). cond (not b) 1 0) (w ∙ ap within is)
+        ∙ rw (le-ltb (length file) 8 long, ← named, eq-eqb (length file) (8 + 10 * n) whole, le-ltb maxSteps n few)
+        (rw (← sets-are, le-ltb maxFileSets (g .sets) m))
 
 -- ---- a file that is not refused
 
@@ -100,6 +111,7 @@ pub record Accepted (file : List ℕ) : Type 0 where
   pub long : 8 ≤ length file
   pub whole : length file ≡ 8 + 10 * stepCount file
   pub short : stepCount file ≤ maxSteps
+  pub few-sets : geometryOf file .sets ≤ maxFileSets
   pub limits : within (geometryOf file) ≡ true
 
 pub accepted : (file : List ℕ) → fileRefusal file ≡ 0 → Accepted file
@@ -110,12 +122,15 @@ accepted file e =
     (λ a. cases (eqb (length file) (8 + 10 * stepCount file))
     (λ b. cases (ltb maxSteps (stepCount file))
     (λ d. absurd (suc-ne-zero 9 (rw (a, b, d) at e)))
-    (λ d. cases (within (geometryOf file))
+    (λ d. cases (ltb maxFileSets (geometryOf file .sets))
+    (λ s. absurd (suc-ne-zero 9 (rw (a, b, d, s) at e)))
+    (λ s. cases (within (geometryOf file))
     (λ w. record {
       long = ltb-false (length file) 8 a;
       whole = eqb-true (length file) (8 + 10 * stepCount file) b;
       short = ltb-false maxSteps (stepCount file) d;
+      few-sets = ltb-false maxFileSets (geometryOf file .sets) s;
       limits = w;
     })
-    (λ w. absurd (suc-ne-zero 0 (rw (a, b, d, w) at e)))))
+    (λ w. absurd (suc-ne-zero 0 (rw (a, b, d, s, w) at e))))))
     (λ b. absurd (suc-ne-zero 9 (rw (a, b) at e))))

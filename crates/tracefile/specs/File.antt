@@ -40,10 +40,18 @@ stepsOf file = lastSteps file (stepCount file) 0 (stepCount file)
 abbrev pub maxSteps : ℕ
 maxSteps = 4096
 
--- Refusal 10: "trace file under 8 bytes, not of its length, or with more than 4,096 steps"; "its length is 8 + 10 × n".
+-- The most sets that a file may name; a call takes as many as `maxSets` of the geometry.
+abbrev pub maxFileSets : ℕ
+maxFileSets = 256
+
+-- Refusal 10: "trace file under 8 bytes, not of its length, or with more than 4,096 steps"; "its length is 8 + 10 × n". Document 02, job 3: "10
+-- also covers a file naming more than 256 sets."
 unfoldable pub badFile : List ℕ → Bool
 badFile file =
-    ltb (length file) 8 || not (eqb (length file) (8 + 10 * stepCount file)) || ltb maxSteps (stepCount file)
+    ltb (length file) 8
+    || not (eqb (length file) (8 + 10 * stepCount file))
+    || ltb maxSteps (stepCount file)
+    || ltb maxFileSets (geometryOf file .sets)
 
 -- The number by which a file is refused, or 0: 10 "comes before all others", then the geometry's 1.
 unfoldable pub fileRefusal : List ℕ → ℕ

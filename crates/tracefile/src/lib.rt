@@ -7,8 +7,10 @@ ghost use lib.ListN.{length, getD};
 ghost use Rattle.command.specs.Command.{commandIs};
 ghost use Rattle.tracefile.specs.File.{field as fieldOf, geometryOf, stepCount, commandAt, fileRefusal};
 
-// The most steps of a file.
+// The most steps of a file, and the most sets that it may name.
 pub const MAX_STEPS: usize = 4096;
+
+pub const MAX_SETS: usize = 256;
 
 // A byte of the file; 0 behind its end.
 fn byte(file: &[u8], at: usize) -> u64
@@ -118,7 +120,11 @@ pub fn refusal(file: &[u8]) -> usize
     if MAX_STEPS < n {
         return 10;
     }
-    if geometry::within(geometry(file)) {
+    let g = geometry(file);
+    if MAX_SETS < g.sets {
+        return 10;
+    }
+    if geometry::within(g) {
         return 0;
     }
     1

@@ -9,15 +9,15 @@ use Rattle.geometry.proofs.place_of.Tie as tie
 returns : tie.Need-returns
 returns c = no-sets (c .before .args .g) (c .before .args .address) (c .if1 .taken)
 
-rem-t7 : tie.Need-rem-t7
-rem-t7 c = search needs
+rem-set : tie.Need-rem-set
+rem-set c = search needs
 
-div-t9 : tie.Need-div-t9
-div-t9 c = search needs
+div-tag : tie.Need-div-tag
+div-tag c = search needs
 
 returns-2 : tie.Need-returns-2
 unfolding placeOf setOf tagOf
 returns-2 c = refl
 
 pub place-of-spec : {M : Type 1} → statement M
-place-of-spec = tie.close (tie.spec returns rem-t7 div-t9 returns-2)
+place-of-spec = tie.close (tie.spec returns rem-set div-tag returns-2)

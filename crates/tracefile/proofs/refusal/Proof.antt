@@ -1,7 +1,8 @@
 -- `tracefile::refusal` meets its contract.
-use mathlib.Core.Path.{sym, ap, _∙_}
+use mathlib.Core.Path.{_≡_, sym, ap, _∙_}
 use mathlib.Core.Bool.{Bool, cond, not}
-use Rattle.tracefile.proofs.FileLaws.{bad-short, bad-length, bad-steps, good-file}
+use Rattle.tracefile.specs.File.{fileRefusal}
+use Rattle.tracefile.proofs.FileLaws.{bad-short, bad-length, bad-steps, bad-sets, good-file}
 use borrow.Author.Needs.{needs}
 use Rattle.tracefile.proofs.refusal.Statement.{statement}
 use Rattle.tracefile.proofs.refusal.Tie as tie
@@ -34,22 +35,30 @@ returns-3 c =
 geometry-requires : tie.Need-geometry-requires
 geometry-requires c κs = search needs
 
+returns-4 : tie.Need-returns-4
+returns-4 c =
+    let read = c .before .before in
+    let named = read .before .before .before in
+    bad-sets (named .before .before .before .args .file .now) (named .steps .ensures) (named .before .if1 .left) (read .before .before .if2 .left)
+    (read .before .if3 .left) (read .geometry .ensures) (c .if4 .taken)
+
 within-requires : tie.Need-within-requires
 within-requires c κs = search needs
 
-returns-4 : tie.Need-returns-4
-returns-4 c =
-    let named = c .before .before .before .before .before in
-    ap (λ (b : Bool). cond (not b) 1 0) (sym (c .if4 .taken))
-    ∙ good-file (named .before .before .before .args .file .now) (named .steps .ensures) (named .before .if1 .left)
-    (c .before .before .before .before .if2 .left) (c .before .before .before .if3 .left) (c .before .before .geometry .ensures) (c .before .within .ensures)
+-- a file that 10 does not refuse goes by its geometry
+by-limits : (c : tie.After-within)
+    → cond (not (c .within .result)) 1 0 ≡ fileRefusal (c .before .before .before .before .before .before .before .before .before .args .file .now)
+by-limits c =
+    let read = c .before .before .before in
+    let named = read .before .before .before in
+    good-file (named .before .before .before .args .file .now) (named .steps .ensures) (named .before .if1 .left) (read .before .before .if2 .left)
+    (read .before .if3 .left) (read .geometry .ensures) (c .before .if4 .left) (c .within .ensures)
 
 returns-5 : tie.Need-returns-5
-returns-5 c =
-    let named = c .before .before .before .before .before in
-    ap (λ (b : Bool). cond (not b) 1 0) (sym (c .if4 .left))
-    ∙ good-file (named .before .before .before .args .file .now) (named .steps .ensures) (named .before .if1 .left)
-    (c .before .before .before .before .if2 .left) (c .before .before .before .if3 .left) (c .before .before .geometry .ensures) (c .before .within .ensures)
+returns-5 c = ap (λ (b : Bool). cond (not b) 1 0) (sym (c .if5 .taken)) ∙ by-limits (c .before)
+
+returns-6 : tie.Need-returns-6
+returns-6 c = ap (λ (b : Bool). cond (not b) 1 0) (sym (c .if5 .left)) ∙ by-limits (c .before)
 
 pub refusal-spec : {M : Type 1} → statement M
 refusal-spec =
@@ -63,6 +72,7 @@ refusal-spec =
     returns-2
     returns-3
     geometry-requires
-    within-requires
     returns-4
-    returns-5)
+    within-requires
+    returns-5
+    returns-6)
