@@ -1,6 +1,6 @@
 -- What the calls write: the words that the loops make are the words of the rule's orders.
-use mathlib.Core.Path.{_≡_, refl, sym, ap, ap₂, _∙_}
-use mathlib.Core.Bool.{Bool, true, false, cond, not, true≢false}
+use mathlib.Core.Path.{_≡_, refl, sym, ap, ap₂, fun-ext, _∙_}
+use mathlib.Core.Bool.{Bool, true, false, cond, not, xor, true≢false}
 use mathlib.Core.List.{[], _∷_, _++_, append-nil}
 use Prim.Native.Nat.{ℕ, _+_, _-_, _^_, _≤_, _<_}
 use native.Mathlib.Omega.{arith}
@@ -8,7 +8,7 @@ use lib.Dec.{eqb, ltb}
 use lib.Bits.{bitXor, xor-lt}
 use lib.ListN.{length}
 use borrow.Author.Tests.{eqb-true, eq-eqb, ltb-true, ltb-false, lt-ltb}
-use Rattle.waymap.specs.Bits.{Bits, bit, digit, reaches}
+use Rattle.waymap.specs.Bits.{Bits, bit, word, digit, reaches}
 use Rattle.waymap.specs.Ways.{isWays, takes}
 use Rattle.waymap.proofs.Booleans.{cases, and-left}
 use Rattle.waymap.proofs.MapLaws.{reach-below}
@@ -18,12 +18,12 @@ use Rattle.waymap.proofs.WordLaws as WordLaws
 use Rattle.waymap.proofs.NumberLaws as NumberLaws
 use Rattle.lru.specs.Lru.{Order, places, wordOf, times, fresh, order, written, kept, others}
 use Rattle.lru.specs.Lru.{joined, touched, touch, changes, aged, reset, last, victim, own}
-use Rattle.lru.specs.Inside.{ahead, rank, lifted}
-use Rattle.lru.specs.Calls.{victimOf, touchOf, changeOf, resetOf, ownOf}
+use Rattle.lru.specs.Inside.{rank, lifted}
+use Rattle.lru.specs.Calls.{ahead, victimOf, touchOf, changeOf, resetOf, ownOf}
 use Rattle.lru.proofs.OrderLaws.{eqb-sym, times-append, Below, below-head, below-tail, below-kept, each-long, fresh-each}
 use Rattle.lru.proofs.BeforeLaws.{not-first}
 use Rattle.lru.proofs.LruLaws.{aged-each}
-use Rattle.lru.proofs.FallingLaws.{kept-wider}
+use Rattle.lru.proofs.FallingLaws.{kept-nothing, kept-wider}
 use Rattle.lru.proofs.LiftLaws.{rank-lt, lifted-word}
 use Rattle.lru.proofs.PlaceLaws.{places-below, places-word, word-lt, order-each, each-sixteen}
 
@@ -51,6 +51,10 @@ kept-one w (v ∷ o) e =
     rw (eqb-sym w v, t, kept-none w o (omega arith)) (ap (λ (i : ℕ). i ∷ []) (eqb-true v w t)))
     (λ t. let rest : digit false + times w o ≡ 1 = rw t at once in
     rw (eqb-sym w v, t, kept-one w o (omega arith)))
+
+-- the ways of a word that are not in a map
+other-ways : (W x map : ℕ) → map < 2 ^ 16 → kept (bit (2 ^ 16 - 1 - map)) (places W x) ≡ kept (others (bit map)) (places W x)
+other-ways W x map h = kept-ext 16 (places W x) (places-below W x) (λ w k. bit-not 16 map w h ∙ rw (lt-ltb w 16 k))
 
 -- ---- an order put before another is the word of both
 
@@ -107,13 +111,14 @@ module _ (W x : ℕ) (small : W ≤ 16) where
       ∙ ap (λ (o : Order). wordOf (o ++ kept (others (eqb w)) (order W x))) (sym (kept-one w (order W x) once))
       ∙ rw t
 
+  pub kept-word : (map : ℕ) → map < 2 ^ 16 → kept (bit (2 ^ 16 - 1 - map)) (places W (wordOf (order W x))) ≡ kept (others (bit map)) (order W x)
+  kept-word map h = other-ways W (wordOf (order W x)) map h ∙ ap (kept (others (bit map))) read
+
   pub aged-word : (moves : Bits) → ((w : ℕ) → W ≤ w → moves w ≡ false)
-      → ahead (kept (others moves) (places W (wordOf (order W x)))) (ahead (kept moves (fresh 16)) 0) ≡ wordOf (aged W moves (order W x))
+      → ahead (kept (others moves) (order W x)) (wordOf (kept moves (fresh 16))) ≡ wordOf (aged W moves (order W x))
   unfolding aged joined
   aged-word moves none =
-      ap₂ (λ (o q : Order). ahead (kept (others moves) o) (ahead q 0)) read fewer
-      ∙ ap (λ (n : ℕ). ahead (kept (others moves) (order W x)) n)
-      (alone-word (kept (others (others moves)) (fresh W)) back (omega (arith, short, each-long W (fresh W) (fresh-each W))))
+      ap (λ (q : Order). ahead (kept (others moves) (order W x)) (wordOf q)) fewer
       ∙ ahead-word (kept (others moves) (order W x)) (kept (others (others moves)) (fresh W)) (low (others moves)) back
       (omega (arith, each-long W (joined (others moves) (order W x) (fresh W)) (aged-each W moves x)))
     where
@@ -129,19 +134,27 @@ module _ (W x : ℕ) (small : W ≤ 16) where
       back : Below 16 (kept (others (others moves)) (fresh W))
       back = below-kept 16 (others (others moves)) (fresh W) sixteen
 
-      short : length (kept (others (others moves)) (fresh W)) ≤ length (fresh W)
-      short = kept-short (others (others moves)) (fresh W)
-
 -- ---- maps
 
--- the ways of a word that are not in a map
-pub other-ways : (W x map : ℕ) → map < 2 ^ 16 → kept (bit (2 ^ 16 - 1 - map)) (places W x) ≡ kept (others (bit map)) (places W x)
-other-ways W x map h = kept-ext 16 (places W x) (places-below W x) (λ w k. bit-not 16 map w h ∙ rw (lt-ltb w 16 k))
-
 -- the ways in exactly one of two maps
-pub change-word : (old new : ℕ) → old < 2 ^ 16 → new < 2 ^ 16 → bitXor old new ≡ changeOf old new
-unfolding changeOf changes
-change-word old new h k = from-bits 16 (xor-lt 16 old new h k) (λ i l. bit-xor old new i)
+moved-is : (old new : ℕ) → bit (bitXor old new) ≡ changes (bit old) (bit new)
+unfolding changes
+moved-is old new = fun-ext (λ w. bit-xor old new w)
+
+moved-word : (old new : ℕ) → old < 2 ^ 16 → new < 2 ^ 16 → bitXor old new ≡ word 16 (changes (bit old) (bit new))
+moved-word old new h k = from-bits 16 (xor-lt 16 old new h k) (λ i l. ap (λ (b : Bits). b i) (moved-is old new))
+
+pub change-given : {tail : ℕ} (old new : ℕ) → old < 2 ^ 16 → new < 2 ^ 16 → tail ≡ ahead (kept (bit (bitXor old new)) (fresh 16)) 0
+    → record { ways = bitXor old new; tail = tail } ≡ changeOf old new
+unfolding changeOf
+change-given old new h k e = λ i. record { ways = moved-word old new h k i; tail = (e ∙ is) i }
+  where
+    is : ahead (kept (bit (bitXor old new)) (fresh 16)) 0 ≡ wordOf (kept (changes (bit old) (bit new)) (fresh 16))
+    is =
+        ap (λ (b : Bits). ahead (kept b (fresh 16)) 0) (moved-is old new)
+        ∙ alone-word (kept (changes (bit old) (bit new)) (fresh 16))
+        (below-kept 16 (changes (bit old) (bit new)) (fresh 16) (each-sixteen 16 (omega arith) (fresh 16) (fresh-each 16)))
+        (omega (arith, kept-short (changes (bit old) (bit new)) (fresh 16), each-long 16 (fresh 16) (fresh-each 16)))
 
 -- ---- a call within the limits gives what the rule gives
 
@@ -181,40 +194,59 @@ module _ (W x map : ℕ) (t : takes W map ≡ true) where
       next : n ≡ wordOf (touched (bit map) w (order W x))
       next = f ∙ ap (λ (k : ℕ). lifted w (rank w (places W k)) k) is ∙ touched-word W x small (bit map) w e (way-lt W map w t h e)
 
-  pub reset-given : {r n y : ℕ} → map < 2 ^ 16 → r ≡ wordOf (order W x)
-      → n ≡ ahead (kept (others (bit map)) (places W r)) (ahead (kept (bit map) (fresh 16)) 0) → y ≡ cond (eqb n r) x n → y ≡ resetOf W x map
-  unfolding resetOf written
-  reset-given {r} {n} h is f g =
+  pub reset-given : (tail : ℕ) {r n y : ℕ} → map < 2 ^ 16 → r ≡ wordOf (order W x) → n ≡ ahead (kept (bit (2 ^ 16 - 1 - map)) (places W r)) tail
+      → y ≡ cond (eqb n r) x n → y ≡ resetOf W x (record { ways = map; tail = tail })
+  unfolding resetOf
+  reset-given tail {r} {n} h is f g =
       rw t (g ∙ ap₂ (λ (a b : ℕ). cond (eqb a b) x a) next is)
     where
-      next : n ≡ wordOf (aged W (bit map) (order W x))
+      next : n ≡ ahead (kept (others (bit map)) (order W x)) tail
       next =
-          f ∙ ap (λ (k : ℕ). ahead (kept (others (bit map)) (places W k)) (ahead (kept (bit map) (fresh 16)) 0)) is
-          ∙ aged-word W x small (bit map) (λ w k. WordLaws.bit-high W map w (NumberLaws.takes-below W map t h) k)
+          f ∙ ap (λ (k : ℕ). ahead (kept (bit (2 ^ 16 - 1 - map)) (places W k)) tail) is
+          ∙ ap (λ (o : Order). ahead o tail) (kept-word W x small map h)
 
 -- ---- the two calls together are the rule's change of fill map
 
-aged-ext : (W x : ℕ) {p q : Bits} → W ≤ 16 → ((w : ℕ) → w < 16 → p w ≡ q w) → aged W p (order W x) ≡ aged W q (order W x)
-unfolding aged joined
-aged-ext W x small e =
-    ap₂ (λ (o r : Order). o ++ r)
-    (kept-ext 16 (order W x) (each-sixteen W small (order W x) (order-each W x)) (λ w h. ap not (e w h)))
-    (kept-ext 16 (fresh W) (each-sixteen W small (fresh W) (fresh-each W)) (λ w h. ap (λ (b : Bool). not (not b)) (e w h)))
+module _ (W old new : ℕ) (s : takes W old ≡ true) (t : takes W new ≡ true) (h : old < 2 ^ 16) (k : new < 2 ^ 16) where
+  both : bitXor old new < 2 ^ W
+  both = xor-lt W old new (NumberLaws.takes-below W old s h) (NumberLaws.takes-below W new t k)
 
-change-takes : (W old new : ℕ) → takes W old ≡ true → takes W new ≡ true → old < 2 ^ 16 → new < 2 ^ 16 → takes W (changeOf old new) ≡ true
-unfolding takes
-change-takes W old new s t h k =
-    let both : bitXor old new < 2 ^ W = xor-lt W old new (NumberLaws.takes-below W old s h) (NumberLaws.takes-below W new t k) in
-    NumberLaws.takes-both W (changeOf old new) (and-left (isWays W) (not (reaches W old)) s)
-    (rw (sym (change-word old new h k)) (reach-below W (bitXor old new) both))
+  change-takes : takes W (bitXor old new) ≡ true
+  unfolding takes
+  change-takes = NumberLaws.takes-both W (bitXor old new) (and-left (isWays W) (not (reaches W old)) s) (reach-below W (bitXor old new) both)
 
-pub change-resets : (W old new x : ℕ) → takes W old ≡ true → takes W new ≡ true → old < 2 ^ 16 → new < 2 ^ 16
-    → resetOf W x (changeOf old new) ≡ reset W (bit old) (bit new) x
-unfolding resetOf changeOf reset
-change-resets W old new x s t h k = rw (change-takes W old new s t h k) (ap (λ (o : Order). written W x o) (aged-ext W x small moved))
+  pub change-resets : (x : ℕ) → resetOf W x (changeOf old new) ≡ reset W (bit old) (bit new) x
+  unfolding resetOf changeOf reset written
+  change-resets x = rw (← (moved-word old new h k), change-takes) (ap (λ (n : ℕ). cond (eqb n (wordOf (order W x))) x n) next)
+    where
+      moves : Bits
+      moves = changes (bit old) (bit new)
+
+      next : ahead (kept (others (bit (bitXor old new))) (order W x)) (wordOf (kept moves (fresh 16))) ≡ wordOf (aged W moves (order W x))
+      next =
+          ap (λ (b : Bits). ahead (kept (others b) (order W x)) (wordOf (kept moves (fresh 16)))) (moved-is old new)
+          ∙ aged-word W x (NumberLaws.takes-sized W old s .most) moves
+          (λ w l. ap (λ (b : Bits). b w) (sym (moved-is old new)) ∙ WordLaws.bit-high W (bitXor old new) w both l)
+
+-- a change that keeps the fill map leaves every word
+kept-all : {p : Bits} (o : Order) → ((w : ℕ) → p w ≡ true) → kept p o ≡ o
+unfolding kept
+kept-all [] e = refl
+kept-all (v ∷ o) e = rw (e v, kept-all o e)
+
+pub same-resets : (W x : ℕ) (m : Bits) → reset W m m x ≡ x
+unfolding reset changes aged joined written xor
+same-resets W x m = rw (stays, eq-eqb (wordOf (order W x)) (wordOf (order W x)) refl)
   where
-    small : W ≤ 16
-    small = NumberLaws.takes-sized W old s .most
+    none : (b : Bool) → xor b b ≡ false
+    none true = refl
+    none false = refl
 
-    moved : (w : ℕ) → w < 16 → bit (changeOf old new) w ≡ changes (bit old) (bit new) w
-    moved w l = WordLaws.bit-word-in 16 (changes (bit old) (bit new)) w l
+    moves : Bits
+    moves w = xor (m w) (m w)
+
+    stays : kept (others moves) (order W x) ++ kept (others (others moves)) (fresh W) ≡ order W x
+    stays =
+        ap₂ (λ (o q : Order). o ++ q) (kept-all (order W x) (λ w. ap not (none (m w))))
+        (kept-nothing (others (others moves)) W (λ w h. ap (λ (b : Bool). not (not b)) (none (m w))))
+        ∙ append-nil (order W x)

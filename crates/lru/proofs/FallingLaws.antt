@@ -13,10 +13,10 @@ use Rattle.waymap.proofs.Booleans.{cases}
 use Rattle.waymap.proofs.BitLaws.{bit-none}
 use Rattle.waymap.proofs.LowestLaws.{lowest-lt, lowest-in, lowest-least, rest-bit, rest-lt}
 use Rattle.lru.specs.Lru.{Order, fresh, kept}
-use Rattle.lru.specs.Inside.{ahead}
+use Rattle.lru.specs.Calls.{ahead}
 
 -- of the ways below n none is kept
-kept-nothing : (p : Bits) (n : ℕ) → ((w : ℕ) → w < n → p w ≡ false) → kept p (fresh n) ≡ []
+pub kept-nothing : (p : Bits) (n : ℕ) → ((w : ℕ) → w < n → p w ≡ false) → kept p (fresh n) ≡ []
 unfolding kept fresh
 kept-nothing p zero e = refl
 kept-nothing p (suc n) e = rw (e n (omega arith)) (kept-nothing p n (λ w h. e w (omega arith)))

@@ -15,7 +15,7 @@ use Rattle.waymap.proofs.Booleans.{cases}
 use Rattle.waymap.proofs.BitLaws.{bit-or, bit-none}
 use Rattle.waymap.proofs.WordLaws.{word-lt, bit-word, bit-word-in, from-bits}
 use Rattle.lru.specs.Lru.{places, wordOf, times, malformed, fresh, kept, last}
-use Rattle.lru.specs.Inside.{ahead}
+use Rattle.lru.specs.Calls.{ahead}
 use Rattle.lru.proofs.PlaceLaws.{shifted, places-long, places-each, each-formed}
 use Rattle.lru.proofs.OrderLaws.{Each, none-missing}
 use Rattle.lru.proofs.BeforeLaws.{stands, stands-cons}

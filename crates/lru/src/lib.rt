@@ -28,22 +28,34 @@ pub fn touch(ways: usize, word: u64, map: u16, way: usize) -> u64
     orders::written(word, order, orders::touched(ways, order, way))
 }
 
-// The ways that a change of fill map moves to the old end.
-pub fn change(old: u16, new: u16) -> u16
-    ensures { λ r. ⌜ r ≡ changeOf old new ⌝ }
-{
-    old ^ new
+// What a change of fill map does to every order: the ways that it moves to the old end, and the word that holds them as they then stand there.
+pub struct Moves {
+    pub ways: u16,
+    pub tail: u64,
 }
 
-// The word after these ways have moved to the old end.
-pub fn reset(ways: usize, word: u64, moves: u16) -> u64
+// A change of fill map, worked out from the maps alone.
+pub fn change(old: u16, new: u16) -> Moves
+    ensures { λ r. ⌜ r ≡ changeOf old new ⌝ }
+{
+    let moved = old ^ new;
+    Moves {
+        ways: moved,
+        tail: orders::falling(moved),
+    }
+}
+
+// The word after it: the ways that stay keep their order, before those that move.
+pub fn reset(ways: usize, word: u64, moves: Moves) -> u64
     ensures { λ r. ⌜ r ≡ resetOf ways word moves ⌝ }
 {
-    if waymap::takes(ways, moves) {} else {
+    let moved = moves.ways;
+    if waymap::takes(ways, moved) {} else {
         return word;
     }
     let order = orders::read(ways, word);
-    orders::written(word, order, orders::aged(ways, order, moves))
+    let next = orders::put_ahead(ways, !moved, order, moves.tail);
+    orders::written(word, order, next)
 }
 
 // The own part of a word: the map's ways in their order.

@@ -5,8 +5,9 @@ ghost use Prim.Native.Nat.{_/_, _%_, _^_, _<_};
 ghost use lib.Dec.{eqb};
 ghost use Rattle.waymap.specs.Bits.{bit};
 ghost use Rattle.waymap.specs.Ways.{Sized};
-ghost use Rattle.lru.specs.Lru.{places, wordOf, malformed, order, kept, others, last, fresh as freshOrder};
-ghost use Rattle.lru.specs.Inside.{ahead, rank, lifted};
+ghost use Rattle.lru.specs.Lru.{places, wordOf, malformed, order, kept, last, fresh as freshOrder};
+ghost use Rattle.lru.specs.Calls.{ahead};
+ghost use Rattle.lru.specs.Inside.{rank, lifted};
 
 // The way at place k.
 fn at(word: u64, k: usize) -> usize
@@ -123,7 +124,7 @@ pub fn touched(ways: usize, order: u64, way: usize) -> u64
 }
 
 // The ways of a map, the highest the most recent.
-fn falling(map: u16) -> u64
+pub fn falling(map: u16) -> u64
     ensures { λ r. ⌜ r ≡ ahead (kept (bit map) (freshOrder 16)) 0 ⌝ }
 {
     let mut left = map;
@@ -133,14 +134,6 @@ fn falling(map: u16) -> u64
         left = left & (left - 1);
     }
     out
-}
-
-// The order with the ways of the map moved to the old end.
-pub fn aged(ways: usize, order: u64, moves: u16) -> u64
-    requires { ⌜ Sized ways ⌝ }
-    ensures { λ r. ⌜ r ≡ ahead (kept (others (bit moves)) (places ways order)) (ahead (kept (bit moves) (freshOrder 16)) 0) ⌝ }
-{
-    put_ahead(ways, !moves, order, falling(moves))
 }
 
 // The word with an order written over it: where that is the order it is read as, the word stays.

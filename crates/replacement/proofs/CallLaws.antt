@@ -4,12 +4,12 @@ use mathlib.Core.Bool.{Bool, true, false, not, _&&_, _||_, cond}
 use mathlib.Core.List.{[], _∷_}
 use Prim.Native.Nat.{ℕ, zero, suc, _^_, _≤_, _<_}
 use native.Mathlib.Omega.{arith}
-use lib.Dec.{ltb}
+use lib.Dec.{eqb, ltb}
 use lib.Bits.{bitOr}
-use borrow.Author.Tests.{ne-eqb, ltb-true, lt-ltb}
+use borrow.Author.Tests.{eqb-true, ne-eqb, ltb-true, lt-ltb}
 use Rattle.waymap.specs.Bits.{bit, word, any, reaches}
 use Rattle.waymap.specs.Ways.{isWays, Sized}
-use Rattle.waymap.proofs.Booleans.{and-left, and-right, or-none}
+use Rattle.waymap.proofs.Booleans.{cases, and-left, and-right, or-none}
 use Rattle.waymap.proofs.WayLaws.{any-bits, any-wider}
 use Rattle.waymap.proofs.WordLaws.{bit-high}
 use Rattle.waymap.proofs.MapLaws.{below-reach, reach-or}
@@ -188,4 +188,7 @@ change-resets W rule x old new h k limits first second = rw (limits, first, seco
     under : (r : ℕ) → isWays W ≡ true → changeBy (changeUnder r W old new) x ≡ ruleOf r W .reset old new x
     under zero w = tree-reset W w x old new first second
     under (suc zero) w = NruLaws.change-resets old new x h k
-    under (suc (suc r)) w = LruLaws.change-resets W old new x (NumberLaws.takes-both W old w first) (NumberLaws.takes-both W new w second) h k
+    under (suc (suc r)) w =
+        cases (eqb old new)
+        (λ t. rw (t, eqb-true old new t) (sym (LruLaws.same-resets W x (bit new))))
+        (λ t. rw t (LruLaws.change-resets W old new (NumberLaws.takes-both W old w first) (NumberLaws.takes-both W new w second) h k x))

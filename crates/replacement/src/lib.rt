@@ -1,5 +1,6 @@
 // The replacement rules, Tree-PLRU, NRU and true LRU, without any cache above them: a word and a map give a victim and the word before its touch;
 // a word, a map and a touched way give a new word.
+use lru::Moves;
 ghost use mathlib.Core.Path.{_≡_};
 ghost use Rattle.replacement.specs.Calls.{answerOf, result, inLimits, victimOf, touchOf, freshOf, ownOf, sharesOf};
 ghost use Rattle.replacement.specs.Change.{changeOf, changeBy};
@@ -28,8 +29,8 @@ pub enum Change {
     Clear(u64),
     // The bits of these ways become one.
     Raise(u64),
-    // Of so many ways, these move to the old end.
-    Age { ways: usize, moves: u16 },
+    // Of so many ways, some move to the old end.
+    Age { ways: usize, moves: Moves },
     // The word stays as it is.
     Stay,
 }
@@ -140,6 +141,9 @@ pub fn change_of(ways: usize, rule: usize, old: u16, new: u16) -> Change
     }
     if rule == 1 {
         return Change::Raise(nru::change(old, new));
+    }
+    if old == new {
+        return Change::Stay;
     }
     Change::Age {
         ways,

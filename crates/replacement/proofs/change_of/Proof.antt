@@ -1,13 +1,13 @@
 -- `replacement::change_of` meets its contract.
 use mathlib.Core.Path.{_≡_, sym, ap, _∙_}
 use mathlib.Core.Bool.{true, not, _&&_}
-use Prim.Native.Nat.{ℕ}
 use Rattle.waymap.specs.Bits.{reaches}
 use Rattle.replacement.specs.Calls.{inLimits}
 use Rattle.replacement.specs.Change.{changeOf}
 use Rattle.replacement.specs.declared.Change.the-variants.{Clear, Raise, Age}
 use Rattle.replacement.proofs.CallLaws.{two, either-reach}
 use borrow.Author.Needs.{needs}
+use borrow.Author.Tests.{eq-eqb, ne-eqb}
 use Rattle.replacement.proofs.change_of.Statement.{statement}
 use Rattle.replacement.proofs.change_of.Tie as tie
 use Rattle.tree.proofs.change.Reads as change-reads′
@@ -61,15 +61,27 @@ returns-4 c =
     let t = c .before .before .before in
     rw (limits t, reach t, c .before .if4 .taken) (ap Raise (c .change2 .ensures))
 
-change-requires-3 : tie.Need-change-requires-3
-change-requires-3 c κs = search needs
-
 returns-5 : tie.Need-returns-5
 unfolding changeOf
 returns-5 c =
     let t = c .before .before .before in
-    rw (limits t, reach t, two _ _ (limits t) (c .before .before .if3 .left) (c .before .if4 .left))
-    (ap (λ (moves : ℕ). Age (entry t .args .ways) moves) (c .change3 .ensures))
+    let a = entry t .args in
+    rw (limits t, reach t, two _ _ (limits t) (c .before .before .if3 .left) (c .before .if4 .left), eq-eqb (a .old) (a .new) (c .if5 .taken))
+
+change-requires-3 : tie.Need-change-requires-3
+change-requires-3 c κs = search needs
+
+returns-6 : tie.Need-returns-6
+unfolding changeOf
+returns-6 c =
+    let t = c .before .before .before .before in
+    let a = entry t .args in
+    rw (
+      limits t,
+      reach t,
+      two _ _ (limits t) (c .before .before .before .if3 .left) (c .before .before .if4 .left),
+      ne-eqb (a .old) (a .new) (c .before .if5 .left),
+    ) (ap (Age (a .ways)) (c .change3 .ensures))
 
 pub change-of-spec : {M : Type 1} → statement M
 change-of-spec =
@@ -83,5 +95,6 @@ change-of-spec =
     returns-3
     change-requires-2
     returns-4
+    returns-5
     change-requires-3
-    returns-5)
+    returns-6)
