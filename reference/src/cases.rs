@@ -2,7 +2,7 @@
 
 use crate::geometry::Geometry;
 use crate::maps::Map;
-use crate::{listing, nru, rules, tree, visits};
+use crate::{listing, nru, rules, slices, tree, visits};
 
 /// (domain, kind, argument)
 type Code = (u8, u8, u64);
@@ -33,6 +33,11 @@ fn file(sets: u16, ways: u8, rule: u8, steps: &[Code]) -> Vec<u8> {
 
 fn list(sets: u16, ways: u8, rule: u8, steps: &[Code]) -> String {
     listing::of_file(&file(sets, ways, rule, steps))
+}
+
+/// The listing of steps as calls.
+fn call(sets: u16, ways: u8, rule: u8, steps: &[Code]) -> String {
+    slices::of_file(&file(sets, ways, rule, steps))
 }
 
 const CASE_A: &str = "\
@@ -67,6 +72,7 @@ fn steps_of_case_a() -> [Code; 9] {
 #[test]
 fn case_a_the_listing() {
     assert_eq!(list(1, 4, 0, &steps_of_case_a()), CASE_A);
+    assert_eq!(call(1, 4, 0, &steps_of_case_a()), CASE_A);
 }
 
 /// Four misses in maps of two ways; then a flush of the map's second way, a refused step and a hit in its first way.
@@ -130,19 +136,41 @@ fn case_i_nru_map_6_word_0() {
     assert_eq!(nru::touch(word, 6, way), 0b100);
 }
 
+/// By document 02: "4,096 stands, 257 and 8,192 are refused 1 by a call, and a file naming 257 is refused 10."
 #[test]
 fn case_j_sets() {
+    let by_a_call = |sets| call(sets, 8, 0, &[policy(0, 255)]);
+    assert_eq!(by_a_call(4096), "4096 8 0 1\n0 policy 0 0\ndomain 0 0 0 0 0 0\n");
+    assert_eq!(by_a_call(257), "257 8 0 1\n0 refused 1\n");
+    assert_eq!(by_a_call(8192), "8192 8 0 1\n0 refused 1\n");
     assert_eq!(list(256, 8, 0, &[]), "256 8 0 0\n");
-    assert_eq!(list(257, 8, 0, &[]), "refused 1\n");
-    assert_eq!(list(512, 8, 0, &[]), "refused 1\n");
+    for sets in [257, 512, 4096, 65_535] {
+        assert_eq!(list(sets, 8, 0, &[]), "refused 10\n", "{sets} sets");
+    }
+    for sets in [0, 3] {
+        assert_eq!(list(sets, 8, 0, &[]), "refused 1\n", "{sets} sets");
+    }
+}
+
+/// A call takes thirteen numbers of sets, of which a file may name nine. 10 "comes before all others", and 1 before 3.
+#[test]
+fn every_number_of_sets() {
+    for sets in 0..=u16::MAX {
+        let stands = (0..=12).any(|power| sets == 1 << power);
+        assert_eq!(Geometry::new(sets, 8, 1).is_ok(), stands, "{sets} sets");
+        let called = call(sets, 8, 1, &[(0, POLICY, 0), (16, POLICY, 0)]);
+        let answers = if stands { "0 policy 0 0\n1 refused 3\n" } else { "0 refused 1\n1 refused 1\n" };
+        assert_eq!(called, format!("{sets} 8 1 2\n{answers}"));
+        let listed = list(sets, 8, 1, &[(0, POLICY, 0), (16, POLICY, 0)]);
+        let of_file = if stands { &called } else { "refused 1\n" };
+        assert_eq!(listed, if sets > 256 { "refused 10\n" } else { of_file }, "{sets} sets");
+        let of_bad_file = if sets > 256 { "refused 10\n" } else { "refused 1\n" };
+        assert_eq!(list(sets, 5, 7, &[]), of_bad_file, "{sets} sets");
+    }
 }
 
 #[test]
 fn every_other_geometry() {
-    for sets in 0..=u16::MAX {
-        let stands = [1, 2, 4, 8, 16, 32, 64, 128, 256].contains(&sets);
-        assert_eq!(Geometry::new(sets, 8, 1).is_ok(), stands, "{sets} sets");
-    }
     for number in 0..=u8::MAX {
         assert_eq!(Geometry::new(4, number, 0).is_ok(), [2, 4, 8, 16].contains(&number), "{number} ways");
         assert_eq!(Geometry::new(4, 16, number).is_ok(), number <= 2, "rule {number}");
@@ -162,16 +190,55 @@ fn case_l_steps() {
     assert!(most.ends_with("\n4095 refused 6\n"));
     assert_eq!(list(1, 2, 0, &[(0, LOAD, 0); 4097]), "refused 10\n");
     assert_eq!(list(3, 5, 7, &[(0, LOAD, 0); 4097]), "refused 10\n");
+    assert_eq!(call(1, 2, 0, &[(0, LOAD, 0); 4096]), most);
+    assert_eq!(call(1, 2, 0, &[(0, LOAD, 0); 4097]), "refused 10\n");
+    assert_eq!(call(3, 5, 7, &[(0, LOAD, 0); 4097]), "refused 10\n");
 }
 
 #[test]
 fn every_wrong_length() {
     let whole = file(1, 2, 0, &[(0, LOAD, 0); 3]);
-    for length in 0..whole.len() {
-        assert_eq!(listing::of_file(&whole[..length]), "refused 10\n", "{length} bytes");
+    for text_of in [listing::of_file, slices::of_file] {
+        for length in 0..whole.len() {
+            assert_eq!(text_of(&whole[..length]), "refused 10\n", "{length} bytes");
+        }
+        let longer = [&whole[..], &[0]].concat();
+        assert_eq!(text_of(&longer), "refused 10\n");
     }
-    let longer = [&whole[..], &[0]].concat();
-    assert_eq!(listing::of_file(&longer), "refused 10\n");
+}
+
+/// Lines 0, 256 and S: sets 0 and 256 with tag 0, and set 0 with tag 1. At 256 sets line 256 is in set 0 too.
+#[test]
+fn sets_above_255_are_told_apart() {
+    for sets in [512, 1024, 2048, 4096] {
+        let load = |line: u16| (0, LOAD, 64 * u64::from(line));
+        let steps = [policy(0, 15), load(0), load(256), load(sets), load(256), load(0), load(sets - 1)];
+        let fills = "1 fill 0\n2 fill 0\n3 fill 1\n4 hit 0\n5 hit 0\n6 fill 0";
+        let due = format!("{sets} 4 2 7\n0 policy 0 0\n{fills}\ndomain 0 2 4 0 0 0\n");
+        assert_eq!(call(sets, 4, 2, &steps), due);
+    }
+    let of_one_set = list(256, 4, 2, &[policy(0, 15), (0, LOAD, 0), (0, LOAD, 64 * 256)]);
+    assert!(of_one_set.contains("\n1 fill 0\n2 fill 1\n"));
+}
+
+/// The last line of all addresses is in the last set, and its tag has 58 bits less those of the set.
+#[test]
+fn the_highest_address() {
+    for power in 0..=12 {
+        let geometry = Geometry::new(1 << power, 8, 0).expect("sets within the limits");
+        assert_eq!(geometry.place(u64::MAX), ((1 << power) - 1, (1 << (58 - power)) - 1));
+    }
+}
+
+/// Of a geometry outside the limits each step is refused by 1, whatever else would turn it down; no domain gets ways.
+#[test]
+fn calls_outside_the_limits() {
+    let steps = [policy(0, 1), (0, LOAD, 0), (16, 99, u64::MAX)];
+    for (sets, ways, rule) in [(8192, 8, 0), (0, 8, 0), (4096, 3, 0), (4096, 8, 3), (65_535, 255, 255)] {
+        let refused = "0 refused 1\n1 refused 1\n2 refused 1\n";
+        assert_eq!(call(sets, ways, rule, &steps), format!("{sets} {ways} {rule} 3\n{refused}"));
+        assert_eq!(call(sets, ways, rule, &[]), format!("{sets} {ways} {rule} 0\n"));
+    }
 }
 
 /// Four ways under LRU, of which domain 0 has the upper three. Way 1 is filled first and hit again; then way 2 is the
@@ -215,6 +282,7 @@ fn the_rules_called_alone() {
     let entries = [(15, 0, 0), (16, 0, 306)];
     assert_eq!(rules::of_file(&file(1, 4, 2, &entries)), ALONE);
     assert_eq!(rules::of_file(&file(1, 4, 3, &entries)), "refused 1\n");
+    assert_eq!(rules::of_file(&file(512, 4, 2, &entries)), "refused 10\n");
     assert_eq!(rules::of_file(&[]), "refused 10\n");
 }
 
@@ -243,6 +311,7 @@ fn the_ways_visited_by_a_file() {
     assert_eq!(visits::of_file(&file(64, 16, 2, &steps)), "0\n4\n4\n1\n2\n2\n0\n0\n");
     assert_eq!(visits::of_file(&file(64, 16, 2, &[])), "");
     assert_eq!(visits::of_file(&file(64, 16, 3, &steps)), "refused\n");
+    assert_eq!(visits::of_file(&file(512, 16, 2, &steps)), "refused\n");
     assert_eq!(visits::of_file(&[]), "refused\n");
 }
 

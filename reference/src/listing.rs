@@ -5,9 +5,9 @@ use std::fmt::Write;
 
 use crate::cache::Cache;
 use crate::domains::{Domains, DOMAINS};
-use crate::geometry::Geometry;
+use crate::numbers::Refusal;
 use crate::steps::Answer;
-use crate::trace::Trace;
+use crate::trace::{Form, Trace};
 
 /// Writing to a text cannot fail.
 const WRITTEN: &str = "text takes every line";
@@ -15,22 +15,33 @@ const WRITTEN: &str = "text takes every line";
 /// The whole listing of a trace file. "A file refused by 10 or by 1 gives the one line `refused` and the number."
 pub fn of_file(file: &[u8]) -> String {
     match Trace::read(file) {
-        Ok(trace) => of_trace(&trace),
-        Err(refusal) => format!("refused {}\n", refusal.number()),
+        Ok(trace) => of_calls(&trace.form),
+        Err(refusal) => of_refused(refusal),
     }
 }
 
-/// "A refused step does not end the run."
-fn of_trace(trace: &Trace) -> String {
-    let mut text = String::with_capacity(64 + 32 * trace.steps.len());
-    let Geometry { sets, ways, rule } = trace.geometry;
-    writeln!(text, "{sets} {ways} {} {}", rule as u8, trace.steps.len()).expect(WRITTEN);
-    let mut cache = Cache::fresh(trace.geometry);
-    for (place, step) in trace.steps.iter().enumerate() {
-        let answer = cache.step(step);
+/// The one line of a file that is refused as a whole.
+pub fn of_refused(refusal: Refusal) -> String {
+    format!("refused {}\n", refusal.number())
+}
+
+/// The listing of the steps of a file, each of them a call. The first one gets a fresh cache; with a geometry outside
+/// the limits there is none, and number 1 turns all of them down. "A refused step does not end the run."
+pub fn of_calls(form: &Form) -> String {
+    let Form { sets, ways, rule, steps } = form;
+    let mut text = String::with_capacity(64 + 32 * steps.len());
+    writeln!(text, "{sets} {ways} {rule} {}", steps.len()).expect(WRITTEN);
+    let mut cache = form.geometry().map(Cache::fresh);
+    for (place, step) in steps.iter().enumerate() {
+        let answer = match &mut cache {
+            Ok(cache) => cache.step(step),
+            Err(refusal) => Answer::Refused(*refusal),
+        };
         step_line(&mut text, place, answer);
     }
-    domain_lines(&mut text, cache.domains());
+    if let Ok(cache) = cache {
+        domain_lines(&mut text, cache.domains());
+    }
     text
 }
 

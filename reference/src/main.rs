@@ -1,13 +1,14 @@
 //! The reference lister.
 //!
 //! It reads a trace file from standard input and writes the listing that document 01, "Trace file and listing",
-//! defines; with the argument `rules` it writes what the replacement rules called alone give, and with `visits` how
-//! many ways the lookup of each step visited. It was written from document 01 and, for true LRU and the order of work
-//! in the lookup, document 02, without packages, so that `tools/compare` can set it beside the proved programs. The
-//! rules, [`tree`], [`nru`] and [`lru`], and the lookup that counts its visits, `find` in [`cache`], were written
-//! without a look at their proved code. [`rules`] and `HandOver` in [`replacement`] were not: the source of the crate
-//! replacement had been read, for its public calls. Nothing here is proved: where two programs differ, these documents
-//! decide which of them is wrong.
+//! defines; with the argument `rules` it writes what the replacement rules called alone give, with `visits` how many
+//! ways the lookup of each step visited, and with `slices` the listing of its steps as calls, which may have more sets
+//! than a trace file. It was written from document 01 and, for true LRU, the order of work in the lookup and larger
+//! slices, document 02, without packages, so that `tools/compare` can set it beside the proved programs. The rules,
+//! [`tree`], [`nru`] and [`lru`], the lookup that counts its visits, `find` in [`cache`], and the limits of sets, in
+//! [`geometry`] and [`trace`], were written without a look at their proved code. [`rules`] and `HandOver` in
+//! [`replacement`] were not: the source of the crate replacement had been read, for its public calls. Nothing here is
+//! proved: where two programs differ, these documents decide which of them is wrong.
 //!
 //! Each module is one part of document 01, or of document 02 where it says so, and quotes the sentence that it follows.
 //! A module uses only modules that stand before it in this list:
@@ -25,6 +26,7 @@
 //! 11. [`listing`]: the text of a trace
 //! 12. [`rules`]: the text of the rules called alone; it does not use `listing`
 //! 13. [`visits`]: the text of the ways visited; it uses neither `listing` nor `rules`
+//! 14. [`slices`]: the text of calls, by `listing`; it uses neither `rules` nor `visits`
 //!
 //! Above them are this file and, in tests only, `cases`.
 //!
@@ -44,6 +46,7 @@ mod numbers;
 mod refusals;
 mod replacement;
 mod rules;
+mod slices;
 mod steps;
 mod trace;
 mod tree;
@@ -69,7 +72,8 @@ fn text_wanted() -> io::Result<fn(&[u8]) -> String> {
         (None, _) => Ok(listing::of_file),
         (Some(word), None) if word == "rules" => Ok(rules::of_file),
         (Some(word), None) if word == "visits" => Ok(visits::of_file),
-        _ => Err(io::Error::other("usage: reference [rules | visits] < FILE")),
+        (Some(word), None) if word == "slices" => Ok(slices::of_file),
+        _ => Err(io::Error::other("usage: reference [rules | visits | slices] < FILE")),
     }
 }
 

@@ -1,5 +1,6 @@
 //! "When a step is turned down": the numbers. What is asked for each of them stands where it is asked: number 10 in
-//! `trace`, 1 in `geometry`, the others in `refusals`; 5 and 9 of the rules called alone in `rules`.
+//! `trace`, 1 in `geometry`, the others in `refusals`; 5 and 9 of the rules called alone in `rules`. By document 02, "1
+//! moves to the new limit" of sets, and 10 has one more reason.
 
 /// The refusals that a trace file can meet, each with its number. (No file of 4,096 steps reaches `CountSpent`.)
 #[derive(Clone, Copy, PartialEq, Eq, Debug)]
@@ -21,7 +22,7 @@ pub enum Refusal {
     /// "Policy under Tree-PLRU with a node free for it and for another domain."
     SharedNode = 9,
     /// "Trace file under 8 bytes, not of its length, or with more than 4,096 steps. It comes before all others and
-    /// ends the run."
+    /// ends the run." By document 02, "10 also covers a file naming more than 256 sets".
     TraceFile = 10,
 }
 

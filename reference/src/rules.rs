@@ -29,7 +29,7 @@ pub fn of_file(file: &[u8]) -> String {
 fn of_entries(trace: &Trace) -> String {
     let mut text = format!("fresh {}\n", replacement::fresh_word(&trace.geometry));
     let mut before = 0;
-    for entry in &trace.steps {
+    for entry in &trace.form.steps {
         let map = Map::from_le_bytes([entry.domain, entry.kind]);
         word_lines(&mut text, &trace.geometry, entry.argument, map);
         map_lines(&mut text, &trace.geometry, entry.argument, before, map);

@@ -10,19 +10,24 @@ const CODE: usize = 2;
 const ARGUMENT: usize = 8;
 const MOST_STEPS: usize = 4096;
 
+/// By document 02, "10 also covers a file naming more than 256 sets". A call may have more, by `geometry`.
+const MOST_SETS: u16 = 256;
+
 /// The length of a file with as many steps as a file may have.
 pub const LARGEST_FILE: usize = HEADER + (CODE + ARGUMENT) * MOST_STEPS;
 
+/// What a file of the right form says, whichever sets, ways and rule it names.
 #[derive(Debug)]
-pub struct Trace {
-    pub geometry: Geometry,
+pub struct Form {
+    pub sets: u16,
+    pub ways: u8,
+    pub rule: u8,
     pub steps: Vec<Step>,
 }
 
-impl Trace {
-    /// Reads a whole file. Number 10 ("trace file under 8 bytes, not of its length, or with more than 4,096 steps")
-    /// "comes before all others"; then number 1, of its geometry.
-    pub fn read(file: &[u8]) -> Result<Trace, Refusal> {
+impl Form {
+    /// Reads a whole file. Number 10: "trace file under 8 bytes, not of its length, or with more than 4,096 steps".
+    pub fn read(file: &[u8]) -> Result<Form, Refusal> {
         if file.len() < HEADER {
             return Err(Refusal::TraceFile);
         }
@@ -32,8 +37,31 @@ impl Trace {
             return Err(Refusal::TraceFile);
         }
         let sets = u16::from_le_bytes([header[0], header[1]]);
-        let geometry = Geometry::new(sets, header[2], header[3])?;
-        Ok(Trace { geometry, steps: steps(body, n as usize) })
+        Ok(Form { sets, ways: header[2], rule: header[3], steps: steps(body, n as usize) })
+    }
+
+    /// The geometry that it names, or number 1.
+    pub fn geometry(&self) -> Result<Geometry, Refusal> {
+        Geometry::new(self.sets, self.ways, self.rule)
+    }
+}
+
+/// What a trace file says that stands, and the geometry that it names.
+#[derive(Debug)]
+pub struct Trace {
+    pub geometry: Geometry,
+    pub form: Form,
+}
+
+impl Trace {
+    /// Reads a whole file. Number 10, of its form or its number of sets, "comes before all others"; then number 1, of
+    /// its geometry.
+    pub fn read(file: &[u8]) -> Result<Trace, Refusal> {
+        let form = Form::read(file)?;
+        if form.sets > MOST_SETS {
+            return Err(Refusal::TraceFile);
+        }
+        Ok(Trace { geometry: form.geometry()?, form })
     }
 }
 

@@ -20,9 +20,9 @@ pub fn of_file(file: &[u8]) -> String {
 }
 
 fn of_trace(trace: &Trace) -> String {
-    let mut text = String::with_capacity(3 * trace.steps.len());
+    let mut text = String::with_capacity(3 * trace.form.steps.len());
     let mut cache = Cache::fresh(trace.geometry);
-    for step in &trace.steps {
+    for step in &trace.form.steps {
         let (_, visited) = cache.step_and_visits(step);
         writeln!(text, "{visited}").expect(WRITTEN);
     }

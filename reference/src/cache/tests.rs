@@ -71,6 +71,43 @@ fn dropped_lines_are_answered_and_not_counted() {
     assert_eq!((cache.valid[0], cache.dirty[0], &cache.tags[..]), (0, 0, &[0; 4][..]));
 }
 
+/// All 65,536 lines of the largest slice, every one stored to and none of its replacement words as it was fresh: one
+/// change drops them and leaves all tables fresh.
+#[test]
+fn the_most_lines_that_a_change_drops() {
+    for rule in [Rule::TreePlru, Rule::Nru, Rule::Lru] {
+        let geometry = Geometry { sets: 4096, ways: 16, rule };
+        let mut cache = Cache::fresh(geometry);
+        cache.step(&policy(u16::MAX, u16::MAX));
+        for line in 0..65_536 {
+            assert_eq!(cache.step(&store(line)), Answer::Fill { way: line as usize / 4096 });
+        }
+        for line in 0..4096 {
+            assert_eq!(cache.step(&store(line)), Answer::Hit { way: 0 });
+        }
+        let fresh_word = replacement::fresh_word(&geometry);
+        assert!(!cache.replacement.contains(&fresh_word));
+        assert_eq!(cache.step(&policy(0, 0)), Answer::Policy { dropped: 65_536, dirty_dropped: 65_536 });
+        assert_eq!(cache.tags, [0; 65_536]);
+        assert_eq!((cache.valid, cache.dirty), (vec![0; 4096], vec![0; 4096]));
+        assert_eq!(cache.replacement, [fresh_word; 4096]);
+    }
+}
+
+/// The upper eight ways change hands. Of their 32,768 lines the 16,384 in odd sets are dirty.
+#[test]
+fn half_of_the_lines_of_the_largest_slice() {
+    let mut cache = Cache::fresh(Geometry { sets: 4096, ways: 16, rule: Rule::Nru });
+    cache.step(&policy(u16::MAX, u16::MAX));
+    for line in 0..65_536 {
+        cache.step(&Step { kind: 1 + (line % 2) as u8, ..store(line) });
+    }
+    assert_eq!(cache.step(&policy(0x00ff, 0x00ff)), Answer::Policy { dropped: 32_768, dirty_dropped: 16_384 });
+    assert_eq!(cache.valid, [0x00ff; 4096]);
+    assert_eq!(cache.dirty, [0, 0x00ff].repeat(2048));
+    assert_eq!(cache.replacement, [0xff00; 4096]);
+}
+
 #[test]
 fn only_two_zero_maps_zero_the_counts() {
     let mut cache = cache(4, Rule::TreePlru);
