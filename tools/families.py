@@ -76,7 +76,7 @@ WORKED_CASES = [
     ((1, 8, 0), [both(0, 3), both(1, 12)]),
     ((256, 8, 0), []),
     ((257, 8, 0), []),
-    ((512, 8, 0), []),
+    ((4096, 8, 0), []),
     ((1, 2, 0), [both(15, 1), both(16, 2)]),
     ((1, 2, 0), [(0, LOAD, 0)] * MOST_STEPS),
     ((1, 2, 0), [(0, LOAD, 0)] * (MOST_STEPS + 1)),
@@ -113,13 +113,19 @@ def too_many_steps(rng, _index):
     return header(*geometry, n) + rng.randbytes(10) * n
 
 
+def bad_sets(rng):
+    """Mostly a number of sets that no file may name: refused 1 below 256, and 10 above."""
+    below = [0, 3, 5, 100, 255, rng.getrandbits(8)]
+    above = [257, 258, 260, 300, 512, 1024, 4096, 4097, 8192, 32768, 65535, rng.getrandbits(16)]
+    return rng.choice(rng.choice([below, above]))
+
+
 def bad_geometry(rng, _index):
     sets, ways, rule = some_geometry(rng)
-    bad_sets = rng.choice([0, 3, 5, 100, 255, 257, 258, 260, 512, 1024, 4096, 32768, 65535, rng.getrandbits(16)])
     bad_ways = rng.choice([0, 1, 3, 5, 6, 7, 9, 12, 15, 17, 18, 24, 32, 64, 128, 255, rng.getrandbits(8)])
     bad_rule = rng.choice([3, 4, 5, 16, 128, 254, 255, rng.getrandbits(8)])
     fault = rng.choice([1, 1, 2, 2, 4, 4, 3, 5, 6, 7])
-    geometry = (bad_sets if fault & 1 else sets, bad_ways if fault & 2 else ways, bad_rule if fault & 4 else rule)
+    geometry = (bad_sets(rng) if fault & 1 else sets, bad_ways if fault & 2 else ways, bad_rule if fault & 4 else rule)
     trace = grow(Trace(rng, (sets, ways, rule)), Mix(), rng.randint(0, 20))
     return whole_file(geometry, trace.steps)
 
@@ -207,9 +213,9 @@ FAMILIES = [
     Family("short", "0 to 8 steps", 3, short),
     Family("long", "4,096 steps, or one less", 2, long),
     Family("pieces", "a good trace given in pieces, with pauses, as a slow writer would", 1, of_mix(Mix()), True),
-    Family("cases", "cases A, F, G, J, K and L of document 01 in turn", 0.4, worked_case),
+    Family("cases", "cases A, F, G, J, K and L in turn, J as a file has it", 0.4, worked_case),
     Family("many", "4,097 steps and more, otherwise well formed", 0.6, too_many_steps),
-    Family("geometry", "well formed, with sets, ways or rule outside the limits", 3, bad_geometry),
+    Family("geometry", "sets, ways or rule outside the limits (1), or more than 256 sets (10)", 3, bad_geometry),
     Family("truncated", "a good trace that ends early", 2, truncated),
     Family("extended", "a good trace with bytes after its end", 1, extended),
     Family("header", "a good trace with bits of its header flipped", 3, flipped_header),
