@@ -102,10 +102,13 @@ class Census:
     STEP_NUMBERS = {3: "domain 16 or more", 4: "unknown kind", 5: "policy argument", 6: "empty hit map",
                     8: "shared way", 9: "shared node"}
     FILE_NUMBERS = {1: "geometry", 10: "trace file"}
+    GEOMETRIES = GEOMETRIES
+    NEVER = "refused 2, a table's length, or 7, a full count"
 
     def __init__(self):
         self.answers = collections.Counter()
         self.details = collections.Counter()
+        self.most_dropped = 0
         self.refused_steps = collections.Counter()
         self.refused_files = collections.Counter()
         self.geometries = collections.Counter()
@@ -128,22 +131,25 @@ class Census:
             self.answers[word] += 1
             if word in self.DETAILS and self.DETAILS[word][1].fullmatch(fields):
                 self.details[word] += 1
+            if word == "policy":
+                self.most_dropped = max(self.most_dropped, int(fields.split()[0]))
 
     def print(self):
         steps = sum(self.answers.values()) + sum(self.refused_steps.values())
         print(f"census, by the reference's listings: {steps:,} steps in {sum(self.geometries.values()):,} traces")
         for word in self.WORDS:
             detail = f"  of them {self.details[word]:,} {self.DETAILS[word][0]}" if word in self.DETAILS else ""
+            detail += f", at most {self.most_dropped:,}" if word == "policy" else ""
             print_count(word, self.answers[word], detail)
         for number, about in self.STEP_NUMBERS.items():
             print_count(f"refused {number}", self.refused_steps[number], f"  {about}")
         for number, about in self.FILE_NUMBERS.items():
             print_count(f"refused {number}", self.refused_files[number], f"  {about}: the whole file")
         print_count("domain", self.domain_lines, "  lines of counts")
-        rarest = min(self.geometries[geometry] for geometry in GEOMETRIES)
-        seen = sum(1 for geometry in GEOMETRIES if self.geometries[geometry])
-        print_count("geometries", seen, f"  of {len(GEOMETRIES)}, the rarest in {rarest:,} traces")
-        print("  (no file can bring about refused 2, a table's length, or 7, a full count)")
+        rarest = min(self.geometries[geometry] for geometry in self.GEOMETRIES)
+        seen = sum(1 for geometry in self.GEOMETRIES if self.geometries[geometry])
+        print_count("geometries", seen, f"  of {len(self.GEOMETRIES)}, the rarest in {rarest:,} traces")
+        print(f"  (no file can bring about {self.NEVER})")
 
 
 def print_count(name, number, rest=""):

@@ -27,8 +27,8 @@ def make(family, seed, index):
 
 # Traces that stand.
 
-def some_geometry(rng, rules=RULES):
-    return rng.choice(SETS), rng.choice(WAYS), rng.choice(rules)
+def some_geometry(rng, rules=RULES, sets=SETS):
+    return rng.choice(sets), rng.choice(WAYS), rng.choice(rules)
 
 
 def some_length(rng):
@@ -36,10 +36,10 @@ def some_length(rng):
     return rng.randint(*rng.choices([(0, 10), (10, 150), (150, 600), (600, 2000)], [10, 60, 25, 5])[0])
 
 
-def of_mix(mix):
-    """The maker of traces with this mix of steps."""
+def of_mix(mix, sets=SETS):
+    """The maker of traces with this mix of steps, and one of these numbers of sets."""
     def maker(rng, _index):
-        return grow(Trace(rng, some_geometry(rng, mix.rules)), mix, some_length(rng)).file()
+        return grow(Trace(rng, some_geometry(rng, mix.rules, sets)), mix, some_length(rng)).file()
     return maker
 
 

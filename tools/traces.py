@@ -8,8 +8,9 @@ damaged files, is said in families.py.
 import functools
 import struct
 from dataclasses import dataclass
+from typing import Callable
 
-SETS = [1, 2, 4, 8, 16, 32, 64, 128, 256]
+SETS = [1, 2, 4, 8, 16, 32, 64, 128, 256]  # that a trace file may name
 WAYS = [2, 4, 8, 16]
 RULES = [0, 1, 2]  # Tree-PLRU, NRU, LRU
 GEOMETRIES = [(sets, ways, rule) for sets in SETS for ways in WAYS for rule in RULES]
@@ -233,6 +234,11 @@ def change_anything(trace):
 
 # What traces consist of.
 
+def any_sets(rng, sets, most):
+    """Any of the sets, at most so many."""
+    return [rng.randrange(sets) for _ in range(rng.randint(1, most))]
+
+
 @dataclass(frozen=True)
 class Mix:
     """What a trace mostly consists of: weights of steps, weights of policy changes, and how crowded its sets are."""
@@ -252,6 +258,7 @@ class Mix:
     anything: int = 1
     crowd: tuple = (0.1, 1.5)  # lines in use per set, from and to, as multiples of W
     used_sets: int = 3  # at most so many sets are in use
+    choose_sets: Callable = any_sets  # which they are
     stores: float = 0.35  # of the accesses
     wide: float = 0.1  # of the lines: tags of many bits
     strangers: float = 0.03  # of accesses and flushes: by a domain of any number below 16
@@ -268,7 +275,7 @@ class Mix:
 def addresses(trace, mix):
     """The lines that a trace uses: enough for evictions, few enough for hits."""
     rng = trace.rng
-    sets = [rng.randrange(trace.sets) for _ in range(rng.randint(1, mix.used_sets))]
+    sets = mix.choose_sets(rng, trace.sets, mix.used_sets)
     low, high = (max(1, round(part * trace.ways)) for part in mix.crowd)
     lines = []
     for tag in range(rng.randint(low, high)):
