@@ -105,19 +105,19 @@ def traces(seed):
 
 # Counting.
 
-def need_valgrind():
+def need_valgrind(option):
     """A problem where valgrind is missing."""
     if shutil.which("valgrind") is None:
-        raise Problem("--count needs valgrind, and there is none; Debian has it in the package valgrind")
+        raise Problem(f"{option} needs valgrind, and there is none; Debian has it in the package valgrind")
 
 
-def instructions(program, data, directory):
+def instructions(program, data, directory, arguments=()):
     """How many instructions a program takes for a file. It reads a file, not a pipe, which could bring it in pieces."""
     given, counts = directory / "trace", directory / "callgrind.out"
     given.write_bytes(data)
     command = ["valgrind", "-q", "--vgdb=no", "--tool=callgrind", f"--callgrind-out-file={counts}", program]
     with open(given, "rb") as file:
-        done = subprocess.run(command, stdin=file, stdout=subprocess.DEVNULL, stderr=subprocess.PIPE)
+        done = subprocess.run([*command, *arguments], stdin=file, stdout=subprocess.DEVNULL, stderr=subprocess.PIPE)
     if done.returncode != 0:
         ending = describe_ending(Outcome(done.returncode, b"", done.stderr))
         raise Problem(f"cannot count the instructions of {short_path(program)}: under valgrind it ends with {ending}")
