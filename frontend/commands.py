@@ -65,7 +65,7 @@ def _take_struck(kept: tracefile.Trace) -> Run:
 def explain(args: argparse.Namespace) -> int:
     """Tell a run step by step."""
     data = files.read_trace(args.file)
-    run.decode(args.file, data)  # a file that is refused by its length needs no program
+    run.decode(args.file, data)  # a file that is refused by 10 needs no program
     programs.need("lister", "stepper")
     story = Explainer(run.take(args.file, data), paint.for_output(), args.all)
     streams.write_out_text("\n".join(story.lines()) + "\n")

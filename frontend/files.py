@@ -41,8 +41,8 @@ def read_text(name: str) -> tracefile.Trace:
 def read_trace(name: str) -> bytes:
     """Read a trace file, or a trace text as the trace file that it assembles to.
 
-    A text is known by its name or by what it holds. The latter is never in doubt: a number of sets within the limits has a
-    byte 0, so that no trace file which the cache takes could be read as a text."""
+    A text is known by its name or by what it holds. The latter is never in doubt: a number of sets up to 256 has a byte 0,
+    so that no trace file which the cache takes could be read as a text."""
     by_name = name.lower().endswith(".txt")
     with _opened(name) as stream:
         data = streams.read_up_to(stream, tracefile.LARGEST_FILE + 1)

@@ -4,14 +4,14 @@ from __future__ import annotations
 import re
 from dataclasses import dataclass
 
-from frontend import maps
+from frontend import maps, tracefile
 from frontend.errors import MachineFailure
 from frontend.numbers import counted
 from frontend.quote import quoted
 from frontend.tracefile import Trace
 
 DOMAINS = 16
-FILE_REFUSED = 10  # the number by which a file is refused that has not a trace file's length
+FILE_REFUSED = 10  # the number by which a file is refused that has not the length, steps or sets of a trace file
 _FIELDS = {"hit": 1, "fill": 1, "evict": 3, "pass": 0, "flush": 2, "absent": 0, "policy": 2, "refused": 1}
 _NUMBER = "(0|[1-9][0-9]{0,19})"
 _REFUSED = re.compile("refused (1|10)")
@@ -67,14 +67,16 @@ def parse(data: bytes) -> Listing:
     return Listing(None, header, answers, _counts(lines, end))
 
 
-def check(listed: Listing, trace: Trace | None) -> None:
-    """Hold a listing against its trace, or against a file that is no trace; raise NotWhole if it is another's, or cut."""
-    if trace is None and listed.refused != FILE_REFUSED:
-        raise NotWhole(f"it is not 'refused {FILE_REFUSED}', and the file has not the length of a trace file")
-    if trace is not None and listed.refused == FILE_REFUSED:
-        raise NotWhole(f"it is 'refused {FILE_REFUSED}', and the file has the length of a trace file")
-    if trace is None or listed.refused is not None:
+def check(listed: Listing, data: bytes) -> None:
+    """Hold a listing against its file; raise NotWhole if it is another's, or cut."""
+    fault = tracefile.why_refused(data)
+    if fault and listed.refused != FILE_REFUSED:
+        raise NotWhole(f"it is not 'refused {FILE_REFUSED}', and the file is refused by {FILE_REFUSED}: {fault}")
+    if not fault and listed.refused == FILE_REFUSED:
+        raise NotWhole(f"it is 'refused {FILE_REFUSED}', and the file has the length, steps and sets of a trace file")
+    if listed.refused is not None:
         return
+    trace = tracefile.decode(data)
     header = trace.sets, trace.ways, trace.rule, len(trace.steps)
     if listed.header != header:
         written = [" ".join(map(str, numbers)) for numbers in (listed.header, header)]

@@ -44,7 +44,7 @@ def listing_of(data: bytes) -> tuple[bytes, Listing]:
     """Give the listing of a file as the lister writes it, and taken apart; raise NotWhole if it is not whole."""
     written = programs.lister(data)
     listed = listing.parse(written)
-    listing.check(listed, None if tracefile.why_refused(data) else tracefile.decode(data))
+    listing.check(listed, data)
     return written, listed
 
 

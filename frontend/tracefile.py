@@ -8,6 +8,8 @@ from frontend.errors import BadInput
 from frontend.numbers import counted
 
 MAX_STEPS = 4096
+MAX_SETS = 256
+SETS_LIMIT = f"a trace file holds at most {MAX_SETS} sets (calls of the proved library take up to 4,096)"
 POLICY = 16
 KINDS = {0: "fetch", 1: "load", 2: "store", 3: "flush", POLICY: "policy"}
 LRU = 2
@@ -65,17 +67,17 @@ def decode(data: bytes) -> Trace:
 
 
 def why_refused(data: bytes) -> str | None:
-    """Say which of refusal 10's three reasons holds of a file, or None if none does.
+    """Say which of refusal 10's four reasons holds of a file, or None if none does.
 
     Of a file that is longer than the longest trace file only the first bytes are known, and not its length."""
     size = len(data)
     if size < _HEADER.size:
         return f"it has {counted(size, 'byte')}, and the header alone has {_HEADER.size}"
-    count = _HEADER.unpack_from(data)[3]
+    sets, _, _, count = _HEADER.unpack_from(data)
     if size > LARGEST_FILE and count > MAX_STEPS:
         return f"its header says {counted(count, 'step')}, and the most is {MAX_STEPS:,}"
     expected = _HEADER.size + _STEP_SIZE * count
-    if size == expected:
-        return None
-    due = f"its header says {counted(count, 'step')}, so its length is to be 8 + 10 x {count} = {expected} bytes"
-    return f"{due}; it has " + (f"more than {LARGEST_FILE}" if size > LARGEST_FILE else f"{size}")
+    if size != expected:
+        due = f"its header says {counted(count, 'step')}, so its length is to be 8 + 10 x {count} = {expected} bytes"
+        return f"{due}; it has " + (f"more than {LARGEST_FILE}" if size > LARGEST_FILE else f"{size}")
+    return f"its header says {counted(sets, 'set')}; {SETS_LIMIT}" if sets > MAX_SETS else None

@@ -7,7 +7,7 @@ from frontend import maps
 from frontend.listing import Answer
 from frontend.numbers import counted, hexadecimal
 from frontend.stepper import Row
-from frontend.tracefile import LRU, POLICY, Step, Trace
+from frontend.tracefile import LRU, POLICY, SETS_LIMIT, Step, Trace
 
 _RULE_TITLES = {0: "Tree-PLRU", 1: "NRU", LRU: "true LRU"}
 _VERBS = {0: "fetches at", 1: "loads at", 2: "stores at", 3: "flushes"}
@@ -30,7 +30,7 @@ class Refusal:
 REFUSALS = {
     1: Refusal(
         "The geometry is outside the limits.",
-        "Give a number of sets that is a power of two from 1 to 256; 2, 4, 8 or 16 ways;"
+        "Give a number of sets that is a power of two, from 1 to 256 in a trace file; 2, 4, 8 or 16 ways;"
         " and rule 0 (tree), 1 (nru) or 2 (lru).",
     ),
     2: Refusal(
@@ -67,8 +67,8 @@ REFUSALS = {
         " half: aligned groups, such as ways 0,1 and ways 2,3, share no node. NRU and true LRU have no nodes to share.",
     ),
     10: Refusal(
-        "The trace file is under 8 bytes, not of its length, or has more than 4,096 steps.",
-        "A file of n steps has 8 + 10 x n bytes, and n is at most 4,096.",
+        "The trace file is under 8 bytes or not of its length, or has more than 4,096 steps or more than 256 sets.",
+        f"A file of n steps has 8 + 10 x n bytes, and n is at most 4,096; {SETS_LIMIT}.",
     ),
 }
 

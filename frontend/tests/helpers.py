@@ -67,6 +67,12 @@ def random_bytes(source: random.Random, count: int) -> bytes:
     return bytes(source.getrandbits(8) for _ in range(count))
 
 
+def random_file(source: random.Random, count: int) -> bytes:
+    """Make a trace file of any bytes, but of at most 256 sets."""
+    header = struct.pack("<HBBI", source.randint(0, 256), *random_bytes(source, 2), count)
+    return header + random_bytes(source, 10 * count)
+
+
 def random_trace(source: random.Random, count: int) -> Trace:
     """Make a trace with any numbers that a trace file can hold, common ones often."""
     def pick(bits: int, common: tuple[int, ...]) -> int:
@@ -76,7 +82,7 @@ def random_trace(source: random.Random, count: int) -> Trace:
         Step(pick(8, (0, 1, 15, 16)), pick(8, (0, 1, 2, 3, 16)), pick(64, (0, 64, 0x30003, 1 << 32, (1 << 64) - 1)))
         for _ in range(count)
     )
-    return Trace(pick(16, (1, 64, 256)), pick(8, (2, 4, 8, 16)), pick(8, (0, 1, 2)), steps)
+    return Trace(pick(8, (1, 64, 256)), pick(8, (2, 4, 8, 16)), pick(8, (0, 1, 2)), steps)
 
 
 def block(maps: dict[int, tuple[int, int]], place: int = 0, rows: dict[int, Row] | None = None, visited: int = 0) -> bytes:

@@ -18,6 +18,8 @@ from frontend.tracefile import Step, Trace
 
 COMMANDS = tuple(helptext.EXAMPLES)
 CASE_A = str(programs.ROOT / "examples" / "case-a.txt")
+TOO_MANY = 257, 512, 4096, 65_535  # sets
+HELD = "a trace file holds at most 256 sets (calls of the proved library take up to 4,096)"
 
 
 class InFolder(unittest.TestCase):
@@ -167,6 +169,7 @@ class AssembleAndShow(InFolder):
             (b"abc", "it has 3 bytes, and the header alone has 8. It looks like a trace text"),
             (case_a.FILE[:-2], "its header says 9 steps, so its length is to be 8 + 10 x 9 = 98 bytes; it has 96.\n"),
             (long, "its header says 4,097 steps, and the most is 4,096.\n"),
+            *((tracefile.encode(Trace(sets, 4, 0, ())), f"its header says {sets:,} sets; {HELD}.\n") for sets in TOO_MANY),
         ):
             self.assert_bad(("show", "-"), f"dipperlock: standard input is refused by 10: {reason}", stdin=data)
 
@@ -184,7 +187,12 @@ class Programs(InFolder):
         for data, listed, reason in (
             (tracefile.encode(Trace(3, 4, 9, ())), b"refused 1\n", "1: 3 sets, 4 ways, rule 9. The geometry is outside"),
             (tracefile.encode(Trace(3, 4, 0, ())), b"refused 1\n", "1: 3 sets, 4 ways, rule 0 (Tree-PLRU). The geometry"),
+            (tracefile.encode(Trace(0, 4, 0, ())), b"refused 1\n", "1: 0 sets, 4 ways, rule 0 (Tree-PLRU). The geometry"),
             (b"\0b", b"refused 10\n", "10: it has 2 bytes, and the header alone has 8."),
+            *(
+                (tracefile.encode(Trace(sets, 4, 9, ())), b"refused 10\n", f"10: its header says {sets:,} sets; {HELD}.\n")
+                for sets in TOO_MANY
+            ),
         ):
             with by_rote(lister={data: listed}.__getitem__):
                 status, out, err = call("list", stdin=data)
@@ -200,6 +208,14 @@ class Programs(InFolder):
                 for arguments in (("list",), ("explain",), ("isolate", "-", "0")):
                     what = "dipperlock: target/bin/lister did not give a whole listing of this trace: "
                     self.assert_bad(arguments, what, stdin=case_a.FILE, due=3)
+
+    def test_another_answer_to_too_many_sets_is_not_printed(self):
+        for sets in TOO_MANY:
+            data, fault = tracefile.encode(Trace(sets, 4, 0, ())), f"its header says {sets:,} sets; {HELD}"
+            for listed in (b"refused 1\n", f"{sets} 4 0 0\n".encode()):
+                with by_rote(lister={data: listed}.__getitem__):
+                    what = f": it is not 'refused 10', and the file is refused by 10: {fault}\n"
+                    self.assert_bad(("list",), what, stdin=data, due=3)
 
     def test_domain(self):
         for word in ("x", "16", "-1", "", "0x1", "1.5", "007", "\u0663", "99999999999999999999"):

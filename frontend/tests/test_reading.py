@@ -58,14 +58,12 @@ class Listings(unittest.TestCase):
                 listing.parse(data)
 
     def test_no_beginning_of_a_listing_is_whole(self):
-        trace = tracefile.decode(case_a.FILE)
-        listing.check(listing.parse(case_a.LISTING), trace)
+        listing.check(listing.parse(case_a.LISTING), case_a.FILE)
         for size in range(len(case_a.LISTING)):
             with self.assertRaises(MachineFailure, msg=size):
-                listing.check(listing.parse(case_a.LISTING[:size]), trace)
+                listing.check(listing.parse(case_a.LISTING[:size]), case_a.FILE)
 
     def test_where_it_is_not_whole(self):
-        trace = tracefile.decode(case_a.FILE)
         for data, what in (
             (b"", "it is empty"),
             (case_a.LISTING[:-1], "it breaks off within line 12, 'domain 1 0 1 0 0 0'"),
@@ -74,18 +72,32 @@ class Listings(unittest.TestCase):
             (case_a.LISTING.replace(b"1 4 0 9", b"2 4 0 9"), "its first line is '2 4 0 9', and the file's numbers are '1 4 0 9'"),
             (case_a.LISTING[:-19], "its domain lines are those of 0, and by its own answers 0, 1 have ways at the end"),
             (case_a.LISTING + b"x\n", "line 13 is 'x', and should be a domain and its five counts, or the end"),
-            (b"refused 10\n", "it is 'refused 10', and the file has the length of a trace file"),
+            (b"refused 10\n", "it is 'refused 10', and the file has the length, steps and sets of a trace file"),
         ):
             with self.assertRaises(MachineFailure, msg=data) as caught:
-                listing.check(listing.parse(data), trace)
+                listing.check(listing.parse(data), case_a.FILE)
             self.assertIn(f"target/bin/lister did not give a whole listing of this trace: {what}", str(caught.exception))
 
     def test_a_file_that_is_no_trace_is_refused_by_ten(self):
-        listing.check(listing.parse(b"refused 10\n"), None)
-        for data in (b"refused 1\n", case_a.LISTING):
+        for file, reason in (
+            (case_a.FILE[:7], "it has 7 bytes"),
+            (case_a.FILE[:-1], "its header says 9 steps, so its length is to be"),
+            (tracefile.encode(Trace(1, 4, 0, (Step(0, 0, 0),) * 4097)), "its header says 4,097 steps"),
+            (tracefile.encode(Trace(257, 4, 0, ())), "its header says 257 sets"),
+            (tracefile.encode(Trace(512, 4, 0, ())), "its header says 512 sets"),
+        ):
+            listing.check(listing.parse(b"refused 10\n"), file)
+            for data in (b"refused 1\n", case_a.LISTING):
+                with self.assertRaises(MachineFailure) as caught:
+                    listing.check(listing.parse(data), file)
+                self.assertIn(f": it is not 'refused 10', and the file is refused by 10: {reason}", str(caught.exception))
+
+    def test_a_geometry_is_refused_by_one(self):
+        for sets in (0, 3):
+            listing.check(listing.parse(b"refused 1\n"), tracefile.encode(Trace(sets, 4, 0, ())))
+        for sets in (0, 3, 256):
             with self.assertRaises(MachineFailure):
-                listing.check(listing.parse(data), None)
-        listing.check(listing.parse(b"refused 1\n"), Trace(3, 4, 0, ()))
+                listing.check(listing.parse(b"refused 10\n"), tracefile.encode(Trace(sets, 4, 0, ())))
 
 
 class Streams(unittest.TestCase):
@@ -166,6 +178,11 @@ class Words(unittest.TestCase):
         for rule, said in ((0, "rule 0 (Tree-PLRU)"), (1, "rule 1 (NRU)"), (2, "rule 2 (true LRU)"), (3, "rule 3")):
             self.assertEqual(words.geometry(Trace(1, 4, rule, ())), f"1 set, 4 ways, {said}")
         self.assertIn("rule 0 (tree), 1 (nru) or 2 (lru).", words.refusal(1))
+
+    def test_how_many_sets(self):
+        self.assertIn("a number of sets that is a power of two, from 1 to 256 in a trace file;", words.refusal(1))
+        self.assertIn("more than 4,096 steps or more than 256 sets. ", words.refusal(10))
+        self.assertIn("a trace file holds at most 256 sets (calls of the proved library take up to 4,096).", words.refusal(10))
 
     def test_orders(self):
         for word, ways, said in (

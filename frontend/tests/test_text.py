@@ -2,14 +2,13 @@
 from __future__ import annotations
 
 import random
-import struct
 import unittest
 
 from frontend import maps, numbers, text, tracefile
 from frontend.assembler import assemble
 from frontend.programs import ROOT
 from frontend.tests import case_a, true_lru
-from frontend.tests.helpers import random_bytes, random_trace
+from frontend.tests.helpers import random_file, random_trace
 from frontend.tracefile import Step, Trace
 
 HEADER = "sets 1\nways 4\nrule tree\n"
@@ -30,7 +29,7 @@ class RoundTrip(unittest.TestCase):
     def test_random_bytes(self):
         source = random.Random(3)
         for count in (0, 1, 5, 400):
-            self.there_and_back(random_bytes(source, 4) + struct.pack("<I", count) + random_bytes(source, 10 * count))
+            self.there_and_back(random_file(source, count))
 
     def test_random_traces(self):
         source = random.Random(4)
@@ -50,7 +49,7 @@ class RoundTrip(unittest.TestCase):
         self.there_and_back(tracefile.encode(Trace(256, 16, 1, (Step(15, 2, 1 << 63),) * 4096)))
 
     def test_geometries(self):
-        for sets, ways, rule in ((0, 0, 0), (65535, 255, 255), (3, 5, 2), (1, 4, 3)):
+        for sets, ways, rule in ((0, 0, 0), (256, 255, 255), (3, 5, 2), (1, 4, 3)):
             self.there_and_back(tracefile.encode(Trace(sets, ways, rule, ())))
 
 

@@ -2,12 +2,11 @@
 from __future__ import annotations
 
 import random
-import struct
 import unittest
 
 from frontend import tracefile
 from frontend.tests import case_a
-from frontend.tests.helpers import random_bytes, random_trace
+from frontend.tests.helpers import random_file, random_trace
 from frontend.tracefile import BadTraceFile, Step, Trace
 
 
@@ -24,7 +23,7 @@ class TraceFile(unittest.TestCase):
     def test_round_trip_of_random_bytes(self):
         source = random.Random(1)
         for count in (0, 1, 2, 17, 300):
-            data = random_bytes(source, 4) + struct.pack("<I", count) + random_bytes(source, 10 * count)
+            data = random_file(source, count)
             self.assertEqual(tracefile.encode(tracefile.decode(data)), data)
 
     def test_round_trip_of_traces(self):
@@ -41,6 +40,25 @@ class TraceFile(unittest.TestCase):
         data = tracefile.encode(Trace(1, 2, 0, (Step(0, 0, 0),) * 4097))
         self.assert_refused(data, "its header says 4,097 steps, and the most is 4,096")
         self.assert_refused(data[:40_969], "its header says 4,097 steps, and the most is 4,096")
+
+    def test_as_many_sets_as_a_file_holds(self):
+        for sets in (0, 1, 3, 255, 256):  # 0, 3 and 255 are for the lister to refuse
+            self.assertEqual(tracefile.decode(tracefile.encode(Trace(sets, 2, 0, ()))).sets, sets)
+
+    def test_too_many_sets(self):
+        held = "a trace file holds at most 256 sets (calls of the proved library take up to 4,096)"
+        for sets, said in ((257, "257"), (512, "512"), (4096, "4,096"), (65_535, "65,535")):
+            for steps in ((), (Step(0, 0, 0),) * 4096):
+                self.assert_refused(tracefile.encode(Trace(sets, 2, 0, steps)), f"its header says {said} sets; {held}")
+
+    def test_the_number_of_sets_is_the_last_reason(self):
+        data = tracefile.encode(Trace(512, 2, 0, (Step(0, 0, 0),) * 4097))
+        self.assert_refused(data[:7], "it has 7 bytes, and the header alone has 8")
+        self.assert_refused(data[:8], "its header says 4,097 steps, so its length is to be 8 + 10 x 4097 = 40978 bytes; it has 8")
+        self.assert_refused(data, "its header says 4,097 steps, and the most is 4,096")
+        data = tracefile.encode(Trace(512, 2, 0, ()))
+        self.assert_refused(data + b"\0", "its header says 0 steps, so its length is to be 8 + 10 x 0 = 8 bytes; it has 9")
+        self.assert_refused(data, "its header says 512 sets")
 
     def test_under_eight_bytes(self):
         self.assert_refused(b"", "0 bytes, and the header alone has 8")

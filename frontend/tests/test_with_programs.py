@@ -63,8 +63,14 @@ class CaseA(unittest.TestCase):
         many = (Step(0, 0, 0),) * 4096
         for trace, first in (
             (Trace(256, 2, 0, ()), b"256 2 0 0\n"),
-            (Trace(257, 2, 0, ()), b"refused 1\n"),
-            (Trace(512, 2, 0, ()), b"refused 1\n"),
+            (Trace(0, 2, 0, ()), b"refused 1\n"),
+            (Trace(3, 2, 0, ()), b"refused 1\n"),
+            (Trace(255, 2, 0, ()), b"refused 1\n"),
+            (Trace(257, 2, 0, ()), b"refused 10\n"),
+            (Trace(512, 2, 0, ()), b"refused 10\n"),
+            (Trace(512, 3, 9, many), b"refused 10\n"),
+            (Trace(4096, 2, 0, ()), b"refused 10\n"),
+            (Trace(65_535, 2, 0, ()), b"refused 10\n"),
             (Trace(1, 2, 2, ()), b"1 2 2 0\n"),
             (Trace(1, 2, 3, ()), b"refused 1\n"),
             (Trace(1, 2, 0, (Step(15, 1, 0),)), b"1 2 0 1\n0 refused 6\n"),
@@ -290,8 +296,9 @@ class Random(unittest.TestCase):
                 stepper.parse(stream, tracefile.decode(data))
 
     def test_files_refused_by_ten(self):
-        for data in (b"", b"1234567", case_a.FILE[:-1], case_a.FILE + b"\0"):
-            self.assertEqual(programs.lister(data), b"refused 10\n")
+        many = (tracefile.encode(Trace(sets, 4, 0, (Step(0, 16, 0x30003),))) for sets in (257, 512, 4096, 65_535))
+        for data in (b"", b"1234567", case_a.FILE[:-1], case_a.FILE + b"\0", *many):
+            self.assertEqual((programs.lister(data), programs.parts(data)), (b"refused 10\n", b"refused 10\n"))
             self.assertEqual((programs.purger(data, 0), programs.stepper(data)), (b"", b""))
 
     def test_pass_through(self):
