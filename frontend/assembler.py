@@ -3,10 +3,11 @@ from __future__ import annotations
 
 from frontend.source import Line, Source, Token, close_to, unknown
 from frontend.stepline import is_kind, read_step, repeated
-from frontend.tracefile import LARGEST_BYTE, LARGEST_SETS, MAX_STEPS, RULES, Step, Trace
+from frontend.tracefile import LARGEST_BYTE, MAX_SETS, MAX_STEPS, RULES, SETS_LIMIT, Step, Trace
 
 _DIGITS = "0123456789"
-_HEADERS = {"sets": (LARGEST_SETS, "sets 64"), "ways": (LARGEST_BYTE, "ways 8"), "rule": (LARGEST_BYTE, "rule tree")}
+_HEADERS = {"sets": (MAX_SETS, "sets 64"), "ways": (LARGEST_BYTE, "ways 8"), "rule": (LARGEST_BYTE, "rule tree")}
+_LIMITS = {"sets": SETS_LIMIT}  # what is told of a number that is too large, if not how far such numbers go
 _RULE_NUMBERS = {**{name: number for number, name in RULES.items()}, "tree-plru": 0}
 _RULES_ARE = "Rules are tree (or tree-plru), nru, lru, or a number"
 _LINES_ARE = "A line is 'sets N', 'ways N', 'rule NAME' or a step, 'DOMAIN KIND ARGUMENT'"
@@ -108,7 +109,7 @@ def _header_value(line: Line, word: str) -> int | None:
         return None
     token = line.tokens[1]
     if word != "rule":
-        return line.read_number(token, 0, largest, f"the number of {word}")
+        return line.read_number(token, 0, largest, f"the number of {word}", _LIMITS.get(word))
     if token.text[0] in _DIGITS:
         return line.read_number(token, 0, largest, "the number of a rule")
     if token.text not in _RULE_NUMBERS:

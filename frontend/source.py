@@ -133,8 +133,10 @@ class Line:
             extra = self.tokens[used]
             self.fault(extra, f"unexpected {quoted(extra.text)}; {form}")
 
-    def read_number(self, token: Token, offset: int, largest: int, what: str) -> int | None:
-        """Read the number that a word holds from an offset on; note what is wrong with it."""
+    def read_number(self, token: Token, offset: int, largest: int, what: str, limit: str | None = None) -> int | None:
+        """Read the number that a word holds from an offset on; note what is wrong with it.
+
+        `limit` says of a number that is too large what would be right, where how far such numbers go is not enough."""
         text = token.text[offset:]
         value = numbers.parse(text)
         if value is None:
@@ -143,7 +145,8 @@ class Line:
             self.fault_within(token, offset, len(text) or 1, f"{wrong}; {form}")
         elif value > largest:
             top = str(largest) if largest < 1 << 32 else numbers.hexadecimal(largest)
-            self.fault_within(token, offset, len(text), f"{quoted(text)} is too large; {what} goes from 0 to {top}")
+            right = limit or f"{what} goes from 0 to {top}"
+            self.fault_within(token, offset, len(text), f"{quoted(text)} is too large; {right}")
             return None
         return value
 

@@ -14,7 +14,6 @@ POLICY = 16
 KINDS = {0: "fetch", 1: "load", 2: "store", 3: "flush", POLICY: "policy"}
 LRU = 2
 RULES = {0: "tree", 1: "nru", LRU: "lru"}
-LARGEST_SETS = 0xFFFF
 LARGEST_BYTE = 0xFF
 LARGEST_ARGUMENT = 0xFFFF_FFFF_FFFF_FFFF
 

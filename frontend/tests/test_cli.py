@@ -160,6 +160,20 @@ class AssembleAndShow(InFolder):
         self.assertFalse(Path(target).exists())
         self.assert_bad(("assemble", "-", "-o", target), "standard input:1:1: there is no 'sets' line")
 
+    def test_a_text_of_too_many_sets(self):
+        target = str(self.folder / "out")
+        for sets in TOO_MANY:
+            path = self.file("case.txt", f"sets {sets}\nways 4\nrule tree\n0 load 0x40\n".encode())
+            for arguments in (("assemble", path, "-o", target), ("list", path), ("explain", path), ("isolate", path, "0")):
+                self.assert_bad(arguments, f"{path}:1:6: '{sets}' is too large; {HELD}\n", "; no trace was made\n")
+        self.assertFalse(Path(target).exists())
+
+    def test_a_text_of_sets_that_the_lister_refuses(self):
+        for sets in (0, 3, 256):
+            data = tracefile.encode(Trace(sets, 4, 0, ()))
+            self.assertEqual(call("assemble", "-", "-o", "-", stdin=f"sets {sets}\nways 4\nrule tree\n".encode()), (0, data, ""))
+            self.assertEqual(call("show", "-", stdin=data), (0, f"sets {sets}\nways 4\nrule tree\n".encode(), ""))
+
     def test_output_is_required(self):
         self.assert_bad(("assemble", CASE_A), "the following arguments are required: -o")
 

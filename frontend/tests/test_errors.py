@@ -5,6 +5,7 @@ import unittest
 
 from frontend.assembler import assemble
 from frontend.source import SourceErrors
+from frontend.tracefile import Trace
 
 HEADER = "sets 1\nways 4\nrule tree\n"
 
@@ -112,7 +113,7 @@ class TextErrors(unittest.TestCase):
         self.assertIn(f"\ncase.txt: {count} error{'s' if count > 1 else ''}; no trace was made", told)
 
     def test_header_values(self):
-        self.check("sets 65536\nways 4\nrule nru", "1:6: '65536' is too large; the number of sets goes from 0 to 65535")
+        self.check("sets x\nways 4\nrule nru", "1:6: 'x' is not a number; the number of sets is written")
         self.check("sets 1\nways 256\nrule nru", "2:6: '256' is too large; the number of ways goes from 0 to 255")
         self.check("sets 1\nways four\nrule nru", "2:6: 'four' is not a number; the number of ways is written")
         self.check("sets 1\nways 4\nrule 256", "3:6: '256' is too large; the number of a rule goes from 0 to 255")
@@ -125,6 +126,16 @@ class TextErrors(unittest.TestCase):
             self.check(f"sets 1\nways 4\nrule {word}", f"3:6: unknown rule '{word}'. {rules}")
         self.check("sets\nways 4\nrule nru", "1:5: 'sets' lacks its value; write it as in 'sets 64'")
         self.check("sets 1 2\nways 4\nrule nru", "1:8: unexpected '2'; a header line has one value, as in 'sets 64'")
+
+    def test_too_many_sets(self):
+        held = "a trace file holds at most 256 sets (calls of the proved library take up to 4,096)"
+        for written in ("257", "512", "4096", "8192", "65535", "65536", "0x200", "9" * 50):
+            self.check(f"sets {written}\nways 4\nrule nru\n0 load 0", f"1:6: '{written}' is too large; {held}\n    sets {written}\n")
+        told = report(b"sets 512 # half\nways 4\nrule nru\n")
+        self.assertIn("\n    sets 512 # half\n         ^^^\ncase.txt: 1 error; no trace was made", told)
+        self.check("sets 512\nways 256\nrule nru", f"1:6: '512' is too large; {held}", "2:6: '256' is too large; the number of ways")
+        for sets in (0, 1, 3, 255, 256):  # 0, 3 and 255 are for the lister to refuse
+            self.assertEqual(assemble("case.txt", f"sets {sets}\nways 4\nrule nru\n".encode()), Trace(sets, 4, 1, ()))
 
     def test_header_lines(self):
         self.check(HEADER + "ways 8", "4:1: 'ways' is given twice, first on line 2; keep one")
@@ -195,6 +206,7 @@ class Layout(unittest.TestCase):
             f"kind={digits} 0",
             letters,
             f"sets={letters}",
+            f"sets {digits}",
             f"0 policy {letters}",
             f"0 policy {digits}",
             f"0 policy {letters}=1",
