@@ -16,9 +16,13 @@ Print the listing of a trace, byte for byte what target/bin/lister writes: sets,
 ways, rule and number of steps; an answer for each step; and the counts of each
 domain that has ways.
 
-A file that is refused as a whole, by 10 or by 1, has a listing too, 'refused' and
-the number. It is printed, the reason is told on standard error, and the exit
-status is 2, as it is for explain and isolate.
+A file that is refused as a whole has a listing too, 'refused' and the number: 10
+if it has not the length of a trace file, or too many steps or sets; else 1 if its
+geometry is outside the limits. It is printed, the reason is told on standard
+error, and the exit status is 2, as it is for explain and isolate.
+
+A trace file holds at most 256 sets, and at most 4,096 steps. Calls of the proved
+library take up to 4,096 sets.
 
 FILE is a trace file or a trace text; without FILE, or with -, standard input. A
 text is known by a name that ends in .txt, or by what it holds, since no trace file
@@ -29,7 +33,7 @@ ASSEMBLE = """\
 Turn a trace text into a trace file. A text has three header lines, then one step
 a line:
 
-  sets 1                        a number that two bytes hold
+  sets 1                        a number up to 256
   ways 4                        a number that one byte holds
   rule tree                     tree (or tree-plru), nru, lru, or a number
   0 load 0x40                   domain, kind (fetch, load, store, flush), address
@@ -40,15 +44,18 @@ a line:
   7 kind=9 0x123                any kind by its number, and its argument
 
 Numbers are decimal, 0x or 0b, and '_' may stand between digits. '#' starts a
-comment. Whatever a trace file can say is assembled, also where the cache will
-refuse it. Every error is told with its line and column; then nothing is written.
-A text may have up to 4,194,304 bytes, 1,024 for each of 4,096 steps. FILE is
-replaced when all is written; where that fails, an old FILE is as it was.
+comment. Whatever a trace file can hold is assembled, also where the cache will
+refuse it, such as 3 sets. A trace file holds at most 256 sets, and at most 4,096
+steps; calls of the proved library take up to 4,096 sets. Every error is told with
+its line and column; then nothing is written. A text may have up to 4,194,304
+bytes, 1,024 for each of 4,096 steps. FILE is replaced when all is written; where
+that fails, an old FILE is as it was.
 """
 
 SHOW = """\
 Turn a trace file into a trace text. Assembling that text gives the same file,
-byte for byte. A file that is refused by 10 cannot be shown; the reason is told.
+byte for byte. A file that is refused by 10, as one of more than 256 sets is, cannot
+be shown; the reason is told.
 """
 
 ISOLATE = """\

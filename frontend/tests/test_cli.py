@@ -63,6 +63,13 @@ class Help(InFolder):
         number = "the ways of the domain's hit map, lowest first, up to and including the one hit, or all of them without a hit."
         self.assertIn(f"how many ways the hit lookup visited: {number} An invalid way of the map is counted.", said)
 
+    def test_help_says_how_many_sets_a_file_holds(self):
+        for command in ("list", "assemble"):
+            said = " ".join(call(command, "--help")[1].decode().split())
+            self.assertIn("A trace file holds at most 256 sets, and at most 4,096 steps", said)
+            self.assertIn("alls of the proved library take up to 4,096 sets.", said)
+        self.assertIn("as one of more than 256 sets is,", call("show", "--help")[1].decode())
+
     def test_examples_that_need_no_program(self):
         os.symlink(programs.ROOT / "examples", self.folder / "examples")
         for line in helptext.EXAMPLES["show"]:

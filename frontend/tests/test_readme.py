@@ -34,6 +34,10 @@ class Readme(unittest.TestCase):
         for name in tracefile.RULES.values():
             self.assertIn(f"`{name}`", README)
 
+    def test_how_many_sets_a_file_holds(self):
+        said = f"names more than {tracefile.MAX_SETS} sets, gives the one line `refused 10`"
+        self.assertIn(said, " ".join(README.split()))
+
     def test_document_01_is_told_once(self):
         self.assertEqual(README.count("\n## Document 01\n"), 1)
         self.assertIn("(../README.md#document-01)", (ROOT / "docs" / "CLAIMS.md").read_text(encoding="utf-8")[:800])
