@@ -4,6 +4,7 @@ pub mod PlaceLaws
 pub mod BeforeLaws
 pub mod LruLaws
 pub mod LoopLaws
+pub mod PassLaws
 pub mod FallingLaws
 pub mod LiftLaws
 pub mod CallLaws

@@ -15,9 +15,8 @@ use Rattle.waymap.proofs.Booleans.{cases}
 use Rattle.waymap.proofs.BitLaws.{bit-or, bit-none}
 use Rattle.waymap.proofs.WordLaws.{word-lt, bit-word, bit-word-in, from-bits}
 use Rattle.lru.specs.Lru.{places, wordOf, times, malformed, fresh, kept, last}
-use Rattle.lru.specs.Calls.{ahead}
 use Rattle.lru.proofs.PlaceLaws.{shifted, places-long, places-each, each-formed}
-use Rattle.lru.proofs.OrderLaws.{Each, none-missing}
+use Rattle.lru.proofs.OrderLaws.{none-missing}
 use Rattle.lru.proofs.BeforeLaws.{stands, stands-cons}
 
 -- ---- places by shifts
@@ -107,38 +106,40 @@ module _ {W : ℕ} {m : Bits} {x : ℕ} where
   search-end zero s h = sym (s .is)
   search-end (suc n) s h = absurd (omega arith)
 
--- ---- the ways of a map, put before a word
-
-pub record Putting (W : ℕ) (m : Bits) (x y out k : ℕ) : Type 0 where
-  pub within : k ≤ W
-  pub is : out ≡ ahead (kept m (places (W - k) (x / 16 ^ k))) y
-
--- one place before those that were looked at
-place-before : (W x k : ℕ) → 0 < k → k ≤ W → places (W - (k - 1)) (x / 16 ^ (k - 1)) ≡ x / 16 ^ (k - 1) % 16 ∷ places (W - k) (x / 16 ^ k)
-place-before W x zero h l = absurd (omega arith)
-place-before W x (suc j) h l = let e : suc j - 1 ≡ j = omega arith in rw e (places-from W x j (omega arith))
-
-module _ {W : ℕ} {m : Bits} {x y : ℕ} where
-  pub put-begin : Putting W m x y y W
-  unfolding places kept ahead
-  put-begin = let e : W - W ≡ 0 = omega arith in record { within = omega arith; is = rw e }
-
-  pub put-turned : {out k way : ℕ} {b : Bool} → Putting W m x y out k → 0 < k → way ≡ x / 16 ^ (k - 1) % 16 → b ≡ m way → b ≡ true
-      → Putting W m x y ((out * 16) % 2 ^ 64 + way) (k - 1)
-  unfolding kept ahead
-  put-turned {out} {k} {way} p h e f t = record { within = omega (arith, p .within); is = rw (place-before W x k h (p .within), sym e, sym f ∙ t, p .is) }
-
-  pub put-passed : {out k way : ℕ} {b : Bool} → Putting W m x y out k → 0 < k → way ≡ x / 16 ^ (k - 1) % 16 → b ≡ m way → b ≡ false
-      → Putting W m x y out (k - 1)
-  unfolding kept
-  put-passed {out} {k} {way} p h e f t = record { within = omega (arith, p .within); is = rw (place-before W x k h (p .within), sym e, sym f ∙ t) (p .is) }
-
-  pub put-end : {out : ℕ} (k : ℕ) → Putting W m x y out k → k ≤ 0 → out ≡ ahead (kept m (places W x)) y
-  put-end zero p h = p .is ∙ rw (sub-zero W, div-one x)
-  put-end (suc n) p h = absurd (omega arith)
-
 -- ---- the ways that stand in a word
 
+-- the map of a way
+pub way-bit : (v w : ℕ) → v < 16 → bit (word 16 (λ (u : ℕ). eqb v u)) w ≡ eqb v w
+way-bit v w h =
+    bit-word 16 (λ (u : ℕ). eqb v u) w
+    ∙ cases (eqb v w)
+    (λ t. let e : v ≡ w = eqb-true v w t in rw (t, lt-ltb w 16 (omega arith)))
+    (λ t. rw (t, and-false (ltb w 16)))
+
+-- a higher place that is not zero
+pub high-malformed : (W x : ℕ) → (x / 16 ^ W ≡ 0 → ⊥) → false ≡ not (malformed W x)
+unfolding malformed
+high-malformed W x n = rw (ne-eqb (x / 16 ^ W) 0 n, or-true)
+
+-- where all are, no way may be missing among those that were seen
+module _ (W x : ℕ) {seen all : ℕ} (small : W ≤ 16) (seen-lt : seen < 2 ^ 16) (seen-are : (w : ℕ) → bit seen w ≡ stands w (places W x))
+    (e : all ≡ word 16 (λ (w : ℕ). ltb w W)) where
+  least : seen ≡ all → (w : ℕ) → w < W → 1 ≤ times w (places W x)
+  least same w h =
+      let here : stands w (places W x) ≡ true =
+      sym (seen-are w) ∙ ap (λ (n : ℕ). bit n w) (same ∙ e) ∙ bit-word-in 16 (λ (v : ℕ). ltb v W) w (omega arith) ∙ lt-ltb w W h in
+      omega (arith, eqb-false (times w (places W x)) 0 (not-true (eqb (times w (places W x)) 0) here))
+
+  once : (w : ℕ) → not (eqb (digit (ltb w W)) 0) ≡ ltb w W
+  once w = cases (ltb w W) (λ t. rw t) (λ t. rw t)
+
+  pub formed-is : x / 16 ^ W ≡ 0 → eqb seen all ≡ not (malformed W x)
+  formed-is low =
+      cases (malformed W x)
+      (λ t. rw t (ne-eqb seen all (λ same. true≢false (sym t ∙ each-formed W x (none-missing W (places W x) (places-long W x) (least same)) low))))
+      (λ t. rw t (eq-eqb seen all (from-bits 16 seen-lt (λ w h. seen-are w ∙ ap (λ (n : ℕ). not (eqb n 0)) (places-each W x t w) ∙ once w) ∙ sym e)))
+
+-- The ways at the places below k have been seen.
 pub record Seeing (W x seen rest k : ℕ) : Type 0 where
   pub within : k ≤ W
   pub seen-lt : seen < 2 ^ 16
@@ -148,14 +149,6 @@ pub record Seeing (W x seen rest k : ℕ) : Type 0 where
 pub see-begin : {W x : ℕ} → Seeing W x 0 x 0
 see-begin {W} {x} = record { within = omega arith; seen-lt = omega arith; rest-is = sym (div-one x); seen-are = λ w. rw (bit-none w, sub-zero W) }
 
--- the map of a place's way
-place-bit : (r w : ℕ) → bit (word 16 (λ (v : ℕ). eqb (r % 16) v)) w ≡ eqb (r % 16) w
-place-bit r w =
-    bit-word 16 (λ (v : ℕ). eqb (r % 16) v) w
-    ∙ cases (eqb (r % 16) w)
-    (λ t. let e : r % 16 ≡ w = eqb-true (r % 16) w t in rw (t, lt-ltb w 16 (omega arith)))
-    (λ t. rw (t, and-false (ltb w 16)))
-
 pub see-turned : {W x seen rest k one : ℕ} → Seeing W x seen rest k → k < W → one ≡ word 16 (λ (w : ℕ). eqb (rest % 16) w)
     → Seeing W x (bitOr seen one) (rest / 16) (k + 1)
 unfolding places
@@ -163,7 +156,7 @@ see-turned {W} {x} {seen} {rest} {k} {one} s h e = record {
   within = omega arith;
   seen-lt = or-lt 16 seen one (s .seen-lt) (rw e (word-lt 16 (λ (w : ℕ). eqb (rest % 16) w)));
   rest-is = ap (λ (n : ℕ). n / 16) (s .rest-is) ∙ next x k ∙ ap (λ (n : ℕ). x / 16 ^ n) (sym (add-one k));
-  seen-are = λ w. rw (bit-or seen one w, e, place-bit rest w) (turned w);
+  seen-are = λ w. rw (bit-or seen one w, e, way-bit (rest % 16) w (omega arith)) (turned w);
 }
   where
     more : W - k ≡ suc (W - (k + 1))
@@ -187,26 +180,8 @@ module _ {W x seen rest k : ℕ} (s : Seeing W x seen rest k) (done : W ≤ k) w
       let none : W - k ≡ 0 = omega arith in
       sym (ap (λ (n : ℕ). bit seen w || stands w (places n rest)) none ∙ or-false (bit seen w)) ∙ s .seen-are w
 
-  -- something is left
   pub see-more : (rest ≡ 0 → ⊥) → false ≡ not (malformed W x)
-  unfolding malformed
-  see-more n = rw (ne-eqb (x / 16 ^ W) 0 (λ e. n (last-rest ∙ e)), or-true)
+  see-more n = high-malformed W x (λ e. n (last-rest ∙ e))
 
-  -- nothing is left: no way may be missing
   pub see-ways : {all : ℕ} → W ≤ 16 → all ≡ word 16 (λ (w : ℕ). ltb w W) → rest ≡ 0 → eqb seen all ≡ not (malformed W x)
-  see-ways {all} small e z =
-      cases (malformed W x)
-      (λ t. rw t (ne-eqb seen all (λ same. true≢false (sym t ∙ each-formed W x (each same) (sym last-rest ∙ z)))))
-      (λ t. rw t (eq-eqb seen all (from-bits 16 (s .seen-lt) (λ w h. all-seen w ∙ ap (λ (n : ℕ). not (eqb n 0)) (places-each W x t w) ∙ once w) ∙ sym e)))
-    where
-      once : (w : ℕ) → not (eqb (digit (ltb w W)) 0) ≡ ltb w W
-      once w = cases (ltb w W) (λ t. rw t) (λ t. rw t)
-
-      least : seen ≡ all → (w : ℕ) → w < W → 1 ≤ times w (places W x)
-      least same w h =
-          let here : stands w (places W x) ≡ true =
-          sym (all-seen w) ∙ ap (λ (n : ℕ). bit n w) (same ∙ e) ∙ bit-word-in 16 (λ (v : ℕ). ltb v W) w (omega arith) ∙ lt-ltb w W h in
-          omega (arith, eqb-false (times w (places W x)) 0 (not-true (eqb (times w (places W x)) 0) here))
-
-      each : seen ≡ all → Each W (places W x)
-      each same = none-missing W (places W x) (places-long W x) (least same)
+  see-ways small e z = formed-is W x small (s .seen-lt) all-seen e (sym last-rest ∙ z)

@@ -53,9 +53,13 @@ pub fn reset(ways: usize, word: u64, moves: Moves) -> u64
     if waymap::takes(ways, moved) {} else {
         return word;
     }
-    let order = orders::read(ways, word);
-    let next = orders::put_ahead(ways, !moved, order, moves.tail);
-    orders::written(word, order, next)
+    let found = orders::pass(ways, word, !moved, moves.tail);
+    if found.formed {
+        return orders::written(word, word, found.out);
+    }
+    let order = orders::fresh(ways);
+    let again = orders::pass(ways, order, !moved, moves.tail);
+    orders::written(word, order, again.out)
 }
 
 // The own part of a word: the map's ways in their order.
@@ -65,7 +69,8 @@ pub fn own(ways: usize, word: u64, map: u16) -> u64
     if waymap::takes(ways, map) {} else {
         return 0;
     }
-    orders::put_ahead(ways, map, orders::read(ways, word), 0)
+    let found = orders::pass(ways, orders::read(ways, word), map, 0);
+    found.out
 }
 
 // The word of a fresh cache.

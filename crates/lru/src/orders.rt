@@ -71,21 +71,42 @@ pub fn oldest(ways: usize, order: u64, map: u16) -> usize
     0
 }
 
-// The ways of an order that are in the map, put before the places of a word.
-pub fn put_ahead(ways: usize, map: u16, order: u64, word: u64) -> u64
+// What one pass over the places of a word finds: whether it holds each way exactly once and nothing above, as `holds_each` tells, and its ways
+// of a map, put before the places of another word.
+pub struct Found {
+    pub formed: bool,
+    pub out: u64,
+}
+
+// A change of fill map goes through the words of all sets, and so through each word once. The places are shifted so that the oldest stands at the
+// top, and are taken from there.
+pub fn pass(ways: usize, word: u64, map: u16, tail: u64) -> Found
     requires { ⌜ Sized ways ⌝ }
-    ensures { λ r. ⌜ r ≡ ahead (kept (bit map) (places ways order)) word ⌝ }
+    ensures { λ r. ⌜ r .formed ≡ not (malformed ways word) ⌝ }
+    ensures { λ r. ⌜ r .out ≡ ahead (kept (bit map) (places ways word)) tail ⌝ }
 {
-    let mut out = word;
+    let shift = 64 - 4 * ways;
+    let top = word << shift;
+    let mut rest = top;
+    let mut seen: u16 = 0;
+    let mut out = tail;
     let mut k = ways;
     while 0 < k {
         k -= 1;
-        let way = at(order, k);
-        if waymap::has(map, way) {
-            out = (out << 4) + (way as u64);
+        let way = rest >> 60;
+        rest = rest << 4;
+        seen = seen | waymap::only(way as usize);
+        if waymap::has(map, way as usize) {
+            out = (out << 4) + way;
         }
     }
-    out
+    if top >> shift != word {
+        return Found { formed: false, out };
+    }
+    Found {
+        formed: seen == waymap::all(ways),
+        out,
+    }
 }
 
 // The place of a way that stands in an order.

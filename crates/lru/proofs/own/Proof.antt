@@ -26,11 +26,11 @@ module _ (c : tie.Then1) where
 read-requires : tie.Need-read-requires
 read-requires c κs = takes-sized _ _ (taken c)
 
-put-ahead-requires : tie.Need-put-ahead-requires
-put-ahead-requires c κs = takes-sized _ _ (taken (c .before))
+pass-requires : tie.Need-pass-requires
+pass-requires c κs = takes-sized _ _ (taken (c .before))
 
 returns-2 : tie.Need-returns-2
-returns-2 c = own-given _ _ _ (taken (c .before .before)) (c .before .read .ensures) (c .put-ahead .ensures)
+returns-2 c = own-given _ _ _ (taken (c .before .before)) (c .before .read .ensures) (c .pass .ensures .1)
 
 pub own-spec : {M : Type 1} → statement M
-own-spec = tie.close (tie.spec takes-requires returns read-requires put-ahead-requires returns-2)
+own-spec = tie.close (tie.spec takes-requires returns read-requires pass-requires returns-2)
