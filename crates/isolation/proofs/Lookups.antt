@@ -7,7 +7,8 @@ use borrow.Author.Tests.{eqb-true}
 use Rattle.waymap.specs.Bits.{bit}
 use Rattle.policy.specs.Policy.{asRead}
 use Rattle.row.specs.Row.{Row, ways}
-use Rattle.row.specs.View.{SameLine}
+use Rattle.row.specs.View.{SameMatch}
+use Rattle.row.proofs.LineLaws.{line-match}
 use Rattle.row.proofs.LookLaws.{lookup-same}
 use Rattle.geometry.specs.Geometry.{within}
 use Rattle.geometry.specs.declared.Geometry.{Geometry}
@@ -40,16 +41,16 @@ module _ (g : Geometry) (limits : within g ≡ true) (d : ℕ) (low : d < 16) (a
     long : ways (row a) ≡ g .ways
     long = row-long g (rel .whole-a .shaped) (setOf g address) inside
 
-    lines : (w : ℕ) → bit (asRead (ways (row a)) (mapsOf (domainOf (a .domains) d)) .hit) w ≡ true → SameLine (row a) (row b) w
+    matches : (w : ℕ) → bit (asRead (ways (row a)) (mapsOf (domainOf (a .domains) d)) .hit) w ≡ true → SameMatch (row a) (row b) w
     unfolding policies
-    lines w t = same-to g limits d low a b rel .sets (setOf g address) inside .lines w (rw long at t)
+    matches w t = line-match (same-to g limits d low a b rel .sets (setOf g address) inside .lines w (rw long at t))
 
     lookup-related : (lookupAt g d address a ≡ lookupAt g d address b) × (visitedAt g d address a ≡ visitedAt g d address b)
     unfolding lookupAt visitedAt
     lookup-related =
         rw (← (rel .domain-same))
         (lookup-same (mapsOf (domainOf (a .domains) d)) (tagOf g address) (row a) (row b)
-        (long ∙ sym (row-long g (rel .whole-b .shaped) (setOf g address) inside)) lines)
+        (long ∙ sym (row-long g (rel .whole-b .shaped) (setOf g address) inside)) matches)
 
   -- so a step of its own visits as many ways
   visits-related : (c : Command) → belongs d c ≡ true → visitsOf g c a ≡ visitsOf g c b

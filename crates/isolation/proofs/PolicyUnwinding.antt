@@ -35,6 +35,7 @@ use Rattle.steps.proofs.StateLaws.{
   changed-policy,
   changed-policy-other,
   changed-row,
+  changed-same,
 }
 use Rattle.isolation.proofs.Relation.{Separate, Unheld, Related}
 use Rattle.isolation.proofs.RowUnwinding.{rule, clean-alike, own-drops}
@@ -132,12 +133,7 @@ module _ (g : Geometry) (l : Limited g) (d : ℕ) (low : d < 16) (e : ℕ) (k : 
   policy-related = record {
     whole-a = changed-whole g e k arg a (rel .whole-a);
     whole-b = changed-whole g e k arg b (rel .whole-b);
-    policy-same = λ f.
-        cases (eqb f e)
-        (λ t. rw (eqb-true f e t) (changed-policy g e k arg a (rel .whole-a) ∙ sym (changed-policy g e k arg b (rel .whole-b))))
-        (λ t.
-        changed-policy-other g e k arg a (rel .whole-a) f (eqb-false f e t) ∙ rel .policy-same f
-        ∙ sym (changed-policy-other g e k arg b (rel .whole-b) f (eqb-false f e t)));
+    policy-same = changed-same g e k arg a b (rel .whole-a) (rel .whole-b) (rel .policy-same);
     separate = separate-after;
     domain-same =
         cases (eqb d e)

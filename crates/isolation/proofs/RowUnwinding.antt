@@ -11,13 +11,15 @@ use Rattle.waymap.proofs.Booleans.{cases, not-both}
 use Rattle.replacement.specs.Rule.{Rule, ruleOf}
 use Rattle.replacement.specs.Isolates.{Isolates, Apart}
 use Rattle.replacement.proofs.RuleLaws.{isolates}
-use Rattle.row.specs.Row.{Row, access, flush}
+use Rattle.row.specs.Row.{Row, hitWay, access, flush}
 use Rattle.sweep.specs.Clean.{moved, cleaned, dropped, droppedDirty}
-use Rattle.row.specs.View.{SameLine, SameView}
+use Rattle.row.specs.View.{SameLine, SameView, SameRead}
 use Rattle.policy.specs.declared.Maps.{Maps}
 use Rattle.policy.proofs.ReadLaws.{Cut}
+use Rattle.lookup.proofs.LookupLaws.{hit-own}
 use Rattle.row.proofs.LineLaws.{
   line-trans,
+  view-read,
   access-leaves,
   access-stays,
   access-agrees,
@@ -56,7 +58,7 @@ module _ (g : Geometry) (l : Limited g) where
 
   module _ (d : ℕ) (low : d < 16) (policy : ℕ → Maps) (cut : (e : ℕ) → Cut (g .ways) (policy e)) (apart : Separate g policy) where
     -- a domain's ways are held by no other, and what its choices go by is written by no other
-    own-unheld : (w : ℕ) → bit (policy d .hit) w ≡ true → Unheld d policy w
+    pub own-unheld : (w : ℕ) → bit (policy d .hit) w ≡ true → Unheld d policy w
     own-unheld w t e k n = not-both (bit (policy d .hit) w) (bit (policy e .hit) w) (apart .ways-apart d e low k (λ q. n (sym q)) w) t
 
     fills-apart : (e : ℕ) → e < 16 → (e ≡ d → ⊥) → Apart (policy d .fill) (policy e .fill)
@@ -67,7 +69,7 @@ module _ (g : Geometry) (l : Limited g) where
         (λ u. rw (t, u)))
         (λ t. rw t)
 
-    own-unwritten : (x : R .Cell) → R .own (policy d .fill) x ≡ true → Unwritten R d policy x
+    pub own-unwritten : (x : R .Cell) → R .own (policy d .fill) x ≡ true → Unwritten R d policy x
     own-unwritten x t e k n = rule .own-apart (policy d .fill) (policy e .fill) x (fills-apart e k n) (apart .nodes-apart d e low k (λ q. n (sym q))) t
 
     -- so two rows that are alike look the same to the domain
@@ -79,22 +81,26 @@ module _ (g : Geometry) (l : Limited g) where
 
     module _ (r q : Row) (long-r : length (r .tags) ≡ g .ways) (long-q : length (q .tags) ≡ g .ways) (a : Alike g d policy r q) (tag : ℕ) where
       -- its own access and flush
+      read : SameRead R (policy d) r q
+      read = view-read (cut d) (view-same r q a)
+
       pub own-access : (store : Bool) → (access R (policy d) tag store r .answer ≡ access R (policy d) tag store q .answer)
           × Alike g d policy (access R (policy d) tag store r .row) (access R (policy d) tag store q .row)
       own-access store = (
-        access-answer rule (l .most-ways) (policy d) (cut d) tag r q long-r long-q (view-same r q a) store,
+        access-answer rule (l .most-ways) (policy d) (cut d) tag r q long-r long-q read store,
         record {
-          lines = λ w h u. access-agrees rule (l .most-ways) (policy d) (cut d) tag r q long-r long-q (view-same r q a) store w h (a .lines w h u);
-          cells = λ x u. access-view rule (l .most-ways) (policy d) (cut d) tag r q long-r long-q (view-same r q a) store x (a .cells x u);
+          lines = λ w h u. access-agrees rule (l .most-ways) (policy d) (cut d) tag r q long-r long-q read store w h (a .lines w h u);
+          cells = λ x u. access-view rule (l .most-ways) (policy d) (cut d) tag r q long-r long-q read store x (a .cells x u);
         },
       )
 
       pub own-flush : (flush (policy d) tag r .answer ≡ flush (policy d) tag q .answer)
           × Alike g d policy (flush (policy d) tag r .row) (flush (policy d) tag q .row)
       own-flush = (
-        flush-answer rule (l .most-ways) (policy d) (cut d) tag r q long-r long-q (view-same r q a),
+        flush-answer rule (l .most-ways) (policy d) (cut d) tag r q long-r long-q read
+            (λ t. view-same r q a .lines (hitWay r (policy d .hit) tag) (hit-own (r .tags) (r .valid) (policy d .hit) tag t) .dirty),
         record {
-          lines = λ w h u. flush-agrees rule (l .most-ways) (policy d) (cut d) tag r q long-r long-q (view-same r q a) w h (a .lines w h u);
+          lines = λ w h u. flush-agrees rule (l .most-ways) (policy d) (cut d) tag r q long-r long-q read w h (a .lines w h u);
           cells = λ x u.
               ap (λ (y : ℕ). R .view y x) (flush-word rule (l .most-ways) (policy d) (cut d) tag r long-r) ∙ a .cells x u
               ∙ ap (λ (y : ℕ). R .view y x) (sym (flush-word rule (l .most-ways) (policy d) (cut d) tag q long-q));

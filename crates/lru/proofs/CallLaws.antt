@@ -1,13 +1,13 @@
 -- What the calls write: the words that the loops make are the words of the rule's orders.
 use mathlib.Core.Path.{_≡_, refl, sym, ap, ap₂, fun-ext, _∙_}
-use mathlib.Core.Bool.{Bool, true, false, cond, not, xor, true≢false}
+use mathlib.Core.Bool.{Bool, true, false, cond, not, xor}
 use mathlib.Core.List.{[], _∷_, _++_, append-nil}
 use Prim.Native.Nat.{ℕ, _+_, _-_, _^_, _≤_, _<_}
 use native.Mathlib.Omega.{arith}
-use lib.Dec.{eqb, ltb}
+use lib.Dec.{eqb}
 use lib.Bits.{bitXor, xor-lt}
 use lib.ListN.{length}
-use borrow.Author.Tests.{eqb-true, eq-eqb, ltb-true, ltb-false, lt-ltb}
+use borrow.Author.Tests.{eqb-true, eq-eqb, lt-ltb}
 use Rattle.waymap.specs.Bits.{Bits, bit, word, digit, reaches}
 use Rattle.waymap.specs.Ways.{isWays, takes}
 use Rattle.waymap.proofs.Booleans.{cases, and-left}
@@ -22,7 +22,7 @@ use Rattle.lru.specs.Inside.{rank, lifted}
 use Rattle.lru.specs.Calls.{ahead, victimOf, touchOf, changeOf, resetOf, ownOf}
 use Rattle.lru.proofs.OrderLaws.{eqb-sym, times-append, Below, below-head, below-tail, below-kept, each-long, fresh-each}
 use Rattle.lru.proofs.BeforeLaws.{not-first}
-use Rattle.lru.proofs.LruLaws.{aged-each}
+use Rattle.lru.proofs.LruLaws.{aged-each, touch-outside}
 use Rattle.lru.proofs.FallingLaws.{kept-nothing, kept-wider}
 use Rattle.lru.proofs.LiftLaws.{rank-lt, lifted-word}
 use Rattle.lru.proofs.PlaceLaws.{places-below, places-word, word-lt, order-each, each-sixteen}
@@ -158,13 +158,6 @@ change-given old new h k e = λ i. record { ways = moved-word old new h k i; tai
 
 -- ---- a call within the limits gives what the rule gives
 
--- a way of the map is a way of the cache
-pub way-lt : (W map w : ℕ) → takes W map ≡ true → map < 2 ^ 16 → bit map w ≡ true → w < W
-way-lt W map w t h e =
-    cases (ltb w W)
-    (λ k. ltb-true w W k)
-    (λ k. absurd (true≢false (sym e ∙ WordLaws.bit-high W map w (NumberLaws.takes-below W map t h) (ltb-false w W k))))
-
 module _ (W x map : ℕ) (t : takes W map ≡ true) where
   abbrev small : W ≤ 16
   small = NumberLaws.takes-sized W map t .most
@@ -182,8 +175,8 @@ module _ (W x map : ℕ) (t : takes W map ≡ true) where
 
   -- a touch outside the map, and inside
   pub untouched : (w : ℕ) → bit map w ≡ false → x ≡ touchOf W x map w
-  unfolding touchOf touch touched written
-  untouched w e = rw (t, e, eq-eqb (wordOf (order W x)) (wordOf (order W x)) refl)
+  unfolding touchOf
+  untouched w e = rw t (sym (touch-outside W (bit map) w x e))
 
   pub touch-given : (w : ℕ) {r n y : ℕ} → map < 2 ^ 16 → bit map w ≡ true → r ≡ wordOf (order W x)
       → n ≡ lifted w (rank w (places W r)) r → y ≡ cond (eqb n r) x n → y ≡ touchOf W x map w
@@ -192,7 +185,7 @@ module _ (W x map : ℕ) (t : takes W map ≡ true) where
       rw t (g ∙ ap₂ (λ (a b : ℕ). cond (eqb a b) x a) next is)
     where
       next : n ≡ wordOf (touched (bit map) w (order W x))
-      next = f ∙ ap (λ (k : ℕ). lifted w (rank w (places W k)) k) is ∙ touched-word W x small (bit map) w e (way-lt W map w t h e)
+      next = f ∙ ap (λ (k : ℕ). lifted w (rank w (places W k)) k) is ∙ touched-word W x small (bit map) w e (NumberLaws.takes-way W map t h w e)
 
   pub reset-given : (tail : ℕ) {r n y : ℕ} → map < 2 ^ 16 → r ≡ wordOf (order W x) → n ≡ ahead (kept (bit (2 ^ 16 - 1 - map)) (places W r)) tail
       → y ≡ cond (eqb n r) x n → y ≡ resetOf W x (record { ways = map; tail = tail })

@@ -2,18 +2,19 @@
 use mathlib.Core.Path.{_≡_, refl, sym, ap, _∙_}
 use mathlib.Core.Bool.{true, false, not, _||_, xor, true≢false}
 use mathlib.Core.List.{[], _∷_}
-use Prim.Native.Nat.{ℕ, _≤_, _<_}
+use Prim.Native.Nat.{ℕ, _^_, _≤_, _<_}
 use native.Mathlib.Omega.{arith}
 use lib.Dec.{eqb, ltb}
-use borrow.Author.Tests.{eqb-true, ne-eqb, lt-ltb, not-true}
+use borrow.Author.Tests.{eqb-true, eq-eqb, ne-eqb, lt-ltb, not-true}
 use Rattle.waymap.specs.Bits.{Bits, digit, any}
 use Rattle.waymap.proofs.Booleans.{cases, or-none}
 use Rattle.waymap.proofs.BitLaws.{digit-lt}
 use Rattle.waymap.proofs.WayLaws.{any-found}
-use Rattle.lru.specs.Lru.{Order, wordOf, times, malformed, fresh, order, kept, others, touched, touch, last, victim, changes, aged, reset, before, own}
+use Rattle.lru.specs.Lru.{Order, wordOf, times, malformed, fresh, order, written}
+use Rattle.lru.specs.Lru.{kept, others, touched, touch, last, victim, changes, aged, reset, before, own}
 use Rattle.lru.proofs.OrderLaws.{times-kept, below-head, below-tail, Below, below-kept}
-use Rattle.lru.proofs.OrderLaws.{below-same, Each, each-below, fresh-each, joined-each, kept-times}
-use Rattle.lru.proofs.PlaceLaws.{word-told, order-each, each-sixteen, word-formed, order-written, written-formed}
+use Rattle.lru.proofs.OrderLaws.{below-same, Each, each-below, each-long, fresh-each, joined-each, kept-times}
+use Rattle.lru.proofs.PlaceLaws.{word-lt, word-told, order-each, each-sixteen, word-formed, order-written, written-formed}
 use Rattle.lru.proofs.BeforeLaws.{before-absent, before-alone, before-kept, joined-second, joined-agrees, order-known}
 
 -- ---- the victim
@@ -133,6 +134,31 @@ module _ (W : ℕ) (small : W ≤ 16) where
 
   pub fresh-formed : malformed W (wordOf (fresh W)) ≡ false
   fresh-formed = word-formed W small (fresh W) (fresh-each W)
+
+-- a touch outside the map leaves the word
+pub touch-outside : (W : ℕ) (m : Bits) (w x : ℕ) → m w ≡ false → touch W m w x ≡ x
+unfolding touch touched written
+touch-outside W m w x e = rw (e, eq-eqb (wordOf (order W x)) (wordOf (order W x)) refl)
+
+-- a word of 64 bits stays one
+module _ (W : ℕ) (small : W ≤ 16) where
+  word-fits : (o : Order) → Each W o → wordOf o < 2 ^ 64
+  word-fits o e = word-lt 16 o (each-sixteen W small o e) (rw (each-long W o e) small)
+
+  written-fits : (x : ℕ) (o : Order) → Each W o → x < 2 ^ 64 → written W x o < 2 ^ 64
+  unfolding written
+  written-fits x o e h = cases (eqb (wordOf o) (wordOf (order W x))) (λ t. rw t h) (λ t. rw t (word-fits o e))
+
+  pub fresh-fits : wordOf (fresh W) < 2 ^ 64
+  fresh-fits = word-fits (fresh W) (fresh-each W)
+
+  pub touch-fits : (m : Bits) (w x : ℕ) → x < 2 ^ 64 → touch W m w x < 2 ^ 64
+  unfolding touch
+  touch-fits m w x h = written-fits x (touched m w (order W x)) (touched-each W m w x) h
+
+  pub reset-fits : (old new : Bits) (x : ℕ) → x < 2 ^ 64 → reset W old new x < 2 ^ 64
+  unfolding reset
+  reset-fits old new x h = written-fits x (aged W (changes old new) (order W x)) (aged-each W (changes old new) x) h
 
 -- ways outside the map stay as they are to each other
 touched-stays : (m : Bits) (u : ℕ) (o : Order) (v w : ℕ) → m v ≡ false → m w ≡ false → before (touched m u o) v w ≡ before o v w

@@ -19,7 +19,7 @@ use Rattle.row.specs.Row.{Row, Effect, ways, isHit, hitWay, hitAt, vacan
 use Rattle.lookup.proofs.LookupLaws.{hit-own}
 use Rattle.row.proofs.LookLaws as LookLaws
 use Rattle.policy.proofs.ReadLaws.{Cut}
-use Rattle.row.specs.View.{SameLine, SameView}
+use Rattle.row.specs.View.{SameMatch, SameLine, SameView, SameRead}
 use Rattle.policy.specs.declared.Maps.{Maps}
 use Rattle.command.specs.declared.Answer.the-variants.{Hit, Fill, Evict, Pass, Flush}
 
@@ -34,8 +34,21 @@ line-trans a b = record { valid = a .valid ∙ b .valid; dirty = a .dirty ∙ b 
 pub line-sym : {r q : Row} {w : ℕ} → SameLine r q w → SameLine q r w
 line-sym a = record { valid = sym (a .valid); dirty = sym (a .dirty); tag = sym (a .tag) }
 
+-- what a lookup compares of a line, and what an access reads of what a domain sees
+pub line-match : {r q : Row} {w : ℕ} → SameLine r q w → SameMatch r q w
+line-match a = record { valid = a .valid; tag = a .tag }
+
+pub match-trans : {r q s : Row} {w : ℕ} → SameMatch r q w → SameMatch q s w → SameMatch r s w
+match-trans a b = record { valid = a .valid ∙ b .valid; tag = a .tag ∙ b .tag }
+
+pub match-sym : {r q : Row} {w : ℕ} → SameMatch r q w → SameMatch q r w
+match-sym a = record { valid = sym (a .valid); tag = sym (a .tag) }
+
+pub view-read : {W : ℕ} {R : Rule} {p : Maps} {r q : Row} → Cut W p → SameView R p r q → SameRead R p r q
+view-read c s = record { matches = λ w t. line-match (s .lines w t); marks = λ w t. s .lines w (c .part w t) .dirty; own = s .own }
+
 -- a map with one way put in or taken out, at each way
-put-bit : (w : ℕ) (on : Bool) (map v : ℕ) → v < 16 → bit (put w on map) v ≡ cond (eqb w v) on (bit map v)
+pub put-bit : (w : ℕ) (on : Bool) (map v : ℕ) → v < 16 → bit (put w on map) v ≡ cond (eqb w v) on (bit map v)
 unfolding put
 put-bit w on map v h = bit-word-in 16 (λ (u : ℕ). cond (eqb w u) on (bit map u)) v h
 
@@ -58,7 +71,7 @@ set-agrees (x ∷ xs) (y ∷ ys) (suc w) t (suc v) l e = set-agrees xs ys w t v 
 -- ---- a filled way
 
 module _ (R : Rule) (fill tag : ℕ) (store : Bool) (w x : ℕ) (r : Row) where
-  filled-other : (v : ℕ) → v < 16 → (w ≡ v → ⊥) → SameLine (filled R fill tag store w x r) r v
+  pub filled-other : (v : ℕ) → v < 16 → (w ≡ v → ⊥) → SameLine (filled R fill tag store w x r) r v
   unfolding filled
   filled-other v h n = record {
     valid = put-other w true (r .valid) v h n;
@@ -78,7 +91,7 @@ module _ (R : Rule) (fill tag : ℕ) (store : Bool) (w x : ℕ) (r : Row) where
 -- ---- a hit
 
 module _ (R : Rule) (fill : ℕ) (store : Bool) (w : ℕ) (r : Row) where
-  hit-other : (v : ℕ) → v < 16 → (w ≡ v → ⊥) → SameLine (hitAt R fill store w r .row) r v
+  pub hit-other : (v : ℕ) → v < 16 → (w ≡ v → ⊥) → SameLine (hitAt R fill store w r .row) r v
   unfolding hitAt
   hit-other v h n = record { valid = refl; dirty = cases store (λ t. rw t (put-other w true (r .dirty) v h n)) (λ t. rw t); tag = refl }
 
@@ -117,35 +130,50 @@ module _ {W : ℕ} {R : Rule} (I : Isolates W R) (few : W ≤ 16) (p : Maps) (c 
     own-hit : isHit r (p .hit) tag ≡ true → bit (p .hit) (hitWay r (p .hit) tag) ≡ true
     own-hit = hit-own (r .tags) (r .valid) (p .hit) tag
 
-    vacant-own : any (ways r) (vacant r (p .fill)) ≡ true → bit (p .hit) (lowest (ways r) (vacant r (p .fill))) ≡ true
+    vacant-fill : any (ways r) (vacant r (p .fill)) ≡ true → bit (p .fill) (lowest (ways r) (vacant r (p .fill))) ≡ true
     unfolding vacant
-    vacant-own e =
+    vacant-fill e =
         let w = lowest (ways r) (vacant r (p .fill)) in
-        c .part w (and-left (bit (p .fill) w) (not (bit (r .valid) w)) (lowest-found (ways r) (vacant r (p .fill)) e .1))
+        and-left (bit (p .fill) w) (not (bit (r .valid) w)) (lowest-found (ways r) (vacant r (p .fill)) e .1)
 
-    victim-own : any (ways r) (bit (p .fill)) ≡ true → bit (p .hit) (R .victim (p .fill) (r .word)) ≡ true
-    victim-own e = c .part (R .victim (p .fill) (r .word)) (I .victim-in (p .fill) (r .word) (rw long at e) .1)
+    victim-fill : any (ways r) (bit (p .fill)) ≡ true → bit (p .fill) (R .victim (p .fill) (r .word)) ≡ true
+    victim-fill e = I .victim-in (p .fill) (r .word) (rw long at e) .1
 
-    -- a way of the hit map is no other
-    apart : (w v : ℕ) → bit (p .hit) w ≡ true → bit (p .hit) v ≡ false → w ≡ v → ⊥
-    apart w v a b e = false≢true (sym b ∙ ap (bit (p .hit)) (sym e) ∙ a)
+    -- a way of a map is no way outside it
+    apart : (map w v : ℕ) → bit map w ≡ true → bit map v ≡ false → w ≡ v → ⊥
+    apart map w v a b e = false≢true (sym b ∙ ap (bit map) (sym e) ∙ a)
 
     -- an access leaves the lines outside the hit map alone
     pub access-leaves : (store : Bool) (v : ℕ) → v < W → bit (p .hit) v ≡ false → SameLine (access R p tag store r .row) r v
     unfolding fillAt evictAt
     access-leaves store v h b =
         access-cases R p tag store r r (λ e f. SameLine (e .row) r v) refl refl refl
-        (λ t. hit-other R (p .fill) store (hitWay r (p .hit) tag) r v low (apart (hitWay r (p .hit) tag) v (own-hit t) b))
+        (λ t. hit-other R (p .fill) store (hitWay r (p .hit) tag) r v low (apart (p .hit) (hitWay r (p .hit) tag) v (own-hit t) b))
         (same-line r v)
         (λ t. filled-other R (p .fill) tag store (lowest (ways r) (vacant r (p .fill))) (r .word) r v low
-        (apart (lowest (ways r) (vacant r (p .fill))) v (vacant-own t) b))
+        (apart (p .hit) (lowest (ways r) (vacant r (p .fill))) v (c .part _ (vacant-fill t)) b))
         (λ t. filled-other R (p .fill) tag store (R .victim (p .fill) (r .word)) (R .before (p .fill) (r .word)) r v low
-        (apart (R .victim (p .fill) (r .word)) v (victim-own t) b))
+        (apart (p .hit) (R .victim (p .fill) (r .word)) v (c .part _ (victim-fill t)) b))
       where
         low : v < 16
         low = lt-of-lt-of-le h few
 
-    -- and the cells that the fill map does not write
+    -- outside the fill map it leaves valid bits and tags: there it only hits
+    pub access-keeps : (store : Bool) (v : ℕ) → v < W → bit (p .fill) v ≡ false → SameMatch (access R p tag store r .row) r v
+    unfolding hitAt fillAt evictAt
+    access-keeps store v h b =
+        access-cases R p tag store r r (λ e f. SameMatch (e .row) r v) refl refl refl
+        (λ t. record { valid = refl; tag = refl })
+        (line-match (same-line r v))
+        (λ t. line-match (filled-other R (p .fill) tag store (lowest (ways r) (vacant r (p .fill))) (r .word) r v low
+        (apart (p .fill) (lowest (ways r) (vacant r (p .fill))) v (vacant-fill t) b)))
+        (λ t. line-match (filled-other R (p .fill) tag store (R .victim (p .fill) (r .word)) (R .before (p .fill) (r .word)) r v low
+        (apart (p .fill) (R .victim (p .fill) (r .word)) v (victim-fill t) b)))
+      where
+        low : v < 16
+        low = lt-of-lt-of-le h few
+
+    -- nor does it change the cells that the fill map does not write
     pub access-stays : (store : Bool) (x : R .Cell) → R .writes (p .fill) x ≡ false → R .view (access R p tag store r .row .word) x ≡ R .view (r .word) x
     unfolding hitAt fillAt evictAt filled
     access-stays store x b =
@@ -155,37 +183,40 @@ module _ {W : ℕ} {R : Rule} (I : Isolates W R) (few : W ≤ 16) (p : Maps) (c 
         (λ t. I .touch-stays (p .fill) (lowest (ways r) (vacant r (p .fill))) (r .word) x b)
         (λ t. I .touch-stays (p .fill) (R .victim (p .fill) (r .word)) (R .before (p .fill) (r .word)) x b ∙ I .before-stays (p .fill) (r .word) x b)
 
-    -- so does a flush, and it leaves the word
-    pub flush-leaves : (v : ℕ) → v < W → bit (p .hit) v ≡ false → SameLine (flush p tag r .row) r v
+    -- a flush leaves every line that it does not hit, and so those outside the hit map
+    pub flush-spares : (v : ℕ) → v < W → (isHit r (p .hit) tag ≡ true → hitWay r (p .hit) tag ≡ v → ⊥) → SameLine (flush p tag r .row) r v
     unfolding flush flushAt
-    flush-leaves v h b =
+    flush-spares v h n =
         cases (isHit r (p .hit) tag)
         (λ t. rw t (record {
-          valid = put-other (hitWay r (p .hit) tag) false (r .valid) v (lt-of-lt-of-le h few) (apart (hitWay r (p .hit) tag) v (own-hit t) b);
-          dirty = put-other (hitWay r (p .hit) tag) false (r .dirty) v (lt-of-lt-of-le h few) (apart (hitWay r (p .hit) tag) v (own-hit t) b);
+          valid = put-other (hitWay r (p .hit) tag) false (r .valid) v (lt-of-lt-of-le h few) (n t);
+          dirty = put-other (hitWay r (p .hit) tag) false (r .dirty) v (lt-of-lt-of-le h few) (n t);
           tag = refl;
         }))
         (λ t. rw t (same-line r v))
+
+    pub flush-leaves : (v : ℕ) → v < W → bit (p .hit) v ≡ false → SameLine (flush p tag r .row) r v
+    flush-leaves v h b = flush-spares v h (λ t. apart (p .hit) (hitWay r (p .hit) tag) v (own-hit t) b)
 
     pub flush-word : flush p tag r .row .word ≡ r .word
     unfolding flush flushAt
     flush-word = cases (isHit r (p .hit) tag) (λ t. rw t) (λ t. rw t)
 
-  -- ---- two rows that look the same to the domain: the answers are the same, and what is alike stays alike
+  -- ---- two rows of which the domain reads the same: the answers are the same, and what is alike stays alike
 
-  module _ (r q : Row) (long-r : length (r .tags) ≡ W) (long-q : length (q .tags) ≡ W) (s : SameView R p r q) where
+  module _ (r q : Row) (long-r : length (r .tags) ≡ W) (long-q : length (q .tags) ≡ W) (s : SameRead R p r q) where
     as-long : ways r ≡ ways q
     as-long = long-r ∙ sym long-q
 
     vacant-same : (w : ℕ) → vacant r (p .fill) w ≡ vacant q (p .fill) w
     unfolding vacant
-    vacant-same w = cases (bit (p .fill) w) (λ t. rw t (ap not (s .lines w (c .part w t) .valid))) (λ t. rw t)
+    vacant-same w = cases (bit (p .fill) w) (λ t. rw t (ap not (s .matches w (c .part w t) .valid))) (λ t. rw t)
 
     hit-same : isHit r (p .hit) tag ≡ isHit q (p .hit) tag
-    hit-same = LookLaws.hit-same (p .hit) tag r q as-long (s .lines)
+    hit-same = LookLaws.hit-same (p .hit) tag r q as-long (s .matches)
 
     way-same : hitWay r (p .hit) tag ≡ hitWay q (p .hit) tag
-    way-same = LookLaws.way-same (p .hit) tag r q as-long (s .lines)
+    way-same = LookLaws.way-same (p .hit) tag r q as-long (s .matches)
 
     fill-same : any (ways r) (bit (p .fill)) ≡ any (ways q) (bit (p .fill))
     fill-same = ap (λ (n : ℕ). any n (bit (p .fill))) as-long
@@ -214,8 +245,9 @@ module _ {W : ℕ} {R : Rule} (I : Isolates W R) (few : W ≤ 16) (p : Maps) (c 
         (λ t. ap Hit way-same)
         refl
         (λ t. ap Fill lowest-same)
-        (λ t. let l : SameLine r q (R .victim (p .fill) (r .word)) = s .lines (R .victim (p .fill) (r .word)) (victim-own r long-r t) in
-        rw (← victim-same) (ap₂ (λ (x : ℕ) (b : Bool). Evict (R .victim (p .fill) (r .word)) x b) (l .tag) (l .dirty)))
+        (λ t. let w : ℕ = R .victim (p .fill) (r .word) in
+        let mine = victim-fill r long-r t in
+        rw (← victim-same) (ap₂ (λ (x : ℕ) (b : Bool). Evict w x b) (s .matches w (c .part w mine) .tag) (s .marks w mine)))
 
     pub access-agrees : (store : Bool) (v : ℕ) → v < W → SameLine r q v → SameLine (access R p tag store r .row) (access R p tag store q .row) v
     unfolding fillAt evictAt
@@ -244,12 +276,13 @@ module _ {W : ℕ} {R : Rule} (I : Isolates W R) (few : W ≤ 16) (p : Maps) (c 
         (λ y o. I .before-agrees (p .fill) (r .word) (q .word) y (s .own) (s .own y o))
         (I .before-agrees (p .fill) (r .word) (q .word) x (s .own) e)))
 
-    pub flush-answer : flush p tag r .answer ≡ flush p tag q .answer
+    -- a flush reads the dirty mark of the way that it hits too
+    pub flush-answer : (isHit r (p .hit) tag ≡ true → bit (r .dirty) (hitWay r (p .hit) tag) ≡ bit (q .dirty) (hitWay r (p .hit) tag))
+        → flush p tag r .answer ≡ flush p tag q .answer
     unfolding flush flushAt
-    flush-answer =
+    flush-answer mark =
         rw (← hit-same, ← way-same)
-        (cases (isHit r (p .hit) tag) (λ t. rw t (ap (Flush (hitWay r (p .hit) tag)) (s .lines (hitWay r (p .hit) tag) (own-hit r long-r t) .dirty)))
-        (λ t. rw t))
+        (cases (isHit r (p .hit) tag) (λ t. rw t (ap (Flush (hitWay r (p .hit) tag)) (mark t))) (λ t. rw t))
 
     pub flush-agrees : (v : ℕ) → v < W → SameLine r q v → SameLine (flush p tag r .row) (flush p tag q .row) v
     unfolding flush flushAt

@@ -16,7 +16,7 @@ use Rattle.lookup.proofs.LookupLaws.{hit-below, miss-above, found-same, unread}
 use Rattle.command.specs.declared.Answer.the-variants.{Hit, Absent}
 use Rattle.row.specs.Row.{Row, ways, isHit, hitWay, visited}
 use Rattle.row.specs.Calls.{rowOf, lookupOf, visitedOf}
-use Rattle.row.specs.View.{SameLine}
+use Rattle.row.specs.View.{SameMatch}
 use Rattle.row.specs.declared.Lines.{Lines}
 
 -- ---- what it answers
@@ -46,7 +46,7 @@ lookup-unread p tag r q s =
     (rw (s .as-long, f .same-hit, f .same-way), rw (s .as-long, f .same-visits))
 
 -- Nor anything outside the hit map: of two rows that are as long and the same at each of its ways, a lookup says the same.
-module _ (hit tag : ℕ) (r q : Row) (as-long : ways r ≡ ways q) (same : (w : ℕ) → bit hit w ≡ true → SameLine r q w) where
+module _ (hit tag : ℕ) (r q : Row) (as-long : ways r ≡ ways q) (same : (w : ℕ) → bit hit w ≡ true → SameMatch r q w) where
   matches-same : (w : ℕ) → matches (r .tags) (r .valid) hit tag w ≡ matches (q .tags) (q .valid) hit tag w
   unfolding matches
   matches-same w =
@@ -67,7 +67,7 @@ module _ (hit tag : ℕ) (r q : Row) (as-long : ways r ≡ ways q) (same : (w : 
   unfolding Lookup.visited
   visited-same = ap length (found .same-visits)
 
-pub lookup-same : (p : Maps) (tag : ℕ) (r q : Row) → ways r ≡ ways q → ((w : ℕ) → bit (asRead (ways r) p .hit) w ≡ true → SameLine r q w)
+pub lookup-same : (p : Maps) (tag : ℕ) (r q : Row) → ways r ≡ ways q → ((w : ℕ) → bit (asRead (ways r) p .hit) w ≡ true → SameMatch r q w)
     → (lookupOf p tag r ≡ lookupOf p tag q) × (visitedOf p tag r ≡ visitedOf p tag q)
 unfolding lookupOf visitedOf
 lookup-same p tag r q e same =

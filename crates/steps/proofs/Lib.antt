@@ -1,6 +1,7 @@
 -- The laws that the crates above cite.
 pub mod SetLaws
 pub mod StateLaws
+pub mod DidLaws
 pub mod RunLaws
 pub mod WordLaws
 pub mod AnswerLaws

@@ -19,7 +19,7 @@ use Rattle.command.specs.Command.{Command}
 use Rattle.command.specs.Kind.{Kind, access, flush, policy, unknown, kindOf}
 use Rattle.domains.specs.Domains.{noDomain, domainOf, mapsOf, policies, newDomain}
 use Rattle.domains.specs.declared.Domain.{Domain}
-use Rattle.verdict.specs.Refusal.{policyRefusal, refusalBy}
+use Rattle.verdict.specs.Refusal.{useRefusal, policyRefusal, refusalBy}
 use Rattle.geometry.specs.Geometry.{within}
 use Rattle.geometry.specs.Address.{setOf, tagOf}
 use Rattle.geometry.specs.Inside.{Limited}
@@ -46,8 +46,8 @@ use Rattle.steps.proofs.StateLaws.{
 -- ---- what every access, flush and change of policy keeps, every run keeps
 
 module _ (g : Geometry) (limits : within g ≡ true) (Q : State → Type 0) (whole : (s : State) → Q s → Whole g s)
-    (line : (s : State) → Q s → (e : ℕ) → e < 16 → (arg : ℕ) (flushes store : Bool)
-    → Q (useLine g (lineWork flushes (ruleOf (g .rule) (g .ways)) store) e arg s .state))
+    (line : (s : State) → Q s → (e : ℕ) → e < 16 → useRefusal (policies (g .ways) (s .domains) e) (domainOf (s .domains) e .counts) ≡ 0
+    → (arg : ℕ) (flushes store : Bool) → Q (useLine g (lineWork flushes (ruleOf (g .rule) (g .ways)) store) e arg s .state))
     (change : (s : State) → Q s → (e : ℕ) → e < 16 → (arg : ℕ) → policyRefusal g (policies (g .ways) (s .domains)) e arg ≡ 0
     → Q (changePolicy g e arg s .state)) where
   -- a step that is turned down leaves what was there
@@ -58,8 +58,8 @@ module _ (g : Geometry) (limits : within g ≡ true) (Q : State → Type 0) (who
   kind-lasts : (s : State) → Q s → (e : ℕ) → e < 16 → (arg : ℕ) (y : Kind)
       → Q (decided (refusalBy y g (policies (g .ways) (s .domains)) (domainOf (s .domains) e .counts) e arg) (stepBy y g e arg s) s .state)
   unfolding refusalBy stepBy
-  kind-lasts s q e k arg (access store) = decided-lasts s q _ _ (λ z. line s q e k arg false store)
-  kind-lasts s q e k arg flush = decided-lasts s q _ _ (λ z. line s q e k arg true false)
+  kind-lasts s q e k arg (access store) = decided-lasts s q _ _ (λ z. line s q e k z arg false store)
+  kind-lasts s q e k arg flush = decided-lasts s q _ _ (λ z. line s q e k z arg true false)
   kind-lasts s q e k arg policy = decided-lasts s q _ _ (λ z. change s q e k arg z)
   kind-lasts s q e k arg unknown = decided-lasts s q 4 _ (λ z. absurd (omega arith))
 
@@ -165,4 +165,4 @@ module _ (g : Geometry) (limits : within g ≡ true) where
 
   -- In a run from a fresh cache stored maps need no cutting.
   pub run-kept : (cs : List Command) → Kept (finally g cs (fresh g))
-  run-kept cs = run-lasts g limits Kept (λ s kept. kept .whole) line-kept change-kept cs (fresh g) fresh-kept
+  run-kept cs = run-lasts g limits Kept (λ s kept. kept .whole) (λ s kept e k z. line-kept s kept e k) change-kept cs (fresh g) fresh-kept

@@ -1,5 +1,5 @@
 -- What a step comes to, and what it leaves of a state in which the tables have their lengths.
-use mathlib.Core.Path.{_≡_, refl, ap}
+use mathlib.Core.Path.{_≡_, refl, sym, ap, _∙_}
 use mathlib.Core.Bool.{Bool, true, false}
 use Prim.Native.Nat.{ℕ, _*_, _≤_, _<_}
 use native.Mathlib.Nat.{suc-ne-zero}
@@ -156,3 +156,14 @@ module _ (g : Geometry) (e : ℕ) (k : e < 16) (arg : ℕ) (s : State) (whole : 
   unfolding changePolicy
   changed-row i h = each-row g (cleaned R (policies W (s .domains) e) next) (clean-long R (policies W (s .domains) e) next) (s .tables) (whole .shaped)
       (g .sets) (omega arith) i h
+
+-- Where all policies of two states are the same, they are the same after one change of policy in both.
+pub changed-same : (g : Geometry) (e : ℕ) → e < 16 → (arg : ℕ) (a b : State) → Whole g a → Whole g b
+    → ((f : ℕ) → policies (g .ways) (a .domains) f ≡ policies (g .ways) (b .domains) f)
+    → (f : ℕ) → policies (g .ways) (changePolicy g e arg a .state .domains) f ≡ policies (g .ways) (changePolicy g e arg b .state .domains) f
+changed-same g e k arg a b whole-a whole-b same f =
+    cases (eqb f e)
+    (λ t. rw (eqb-true f e t) (changed-policy g e k arg a whole-a ∙ sym (changed-policy g e k arg b whole-b)))
+    (λ t.
+    changed-policy-other g e k arg a whole-a f (eqb-false f e t) ∙ same f
+    ∙ sym (changed-policy-other g e k arg b whole-b f (eqb-false f e t)))

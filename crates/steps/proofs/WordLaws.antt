@@ -99,4 +99,4 @@ module _ (g : Geometry) (limits : within g ≡ true) (P : ℕ → Type 0) (lasti
   }
 
   pub words-last : (cs : List Command) (i : ℕ) → i < g .sets → P (rowAt (g .ways) i (finally g cs (fresh g) .tables) .word)
-  words-last cs = run-lasts g limits Words (λ s q. q .kept .whole) line-words change-words cs (fresh g) fresh-words .all
+  words-last cs = run-lasts g limits Words (λ s q. q .kept .whole) (λ s q e k z. line-words s q e k) change-words cs (fresh g) fresh-words .all

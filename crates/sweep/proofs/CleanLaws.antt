@@ -16,7 +16,7 @@ use Rattle.row.proofs.LineLaws.{line-trans, line-sym}
 use Rattle.sweep.specs.Clean.{moved, without, dropped, droppedDirty, cleaned}
 use Rattle.sweep.proofs.TagLaws.{wiped-length, wiped-at}
 
-without-bit : (gone : Bits) (map v : ℕ) → v < 16 → bit (without gone map) v ≡ cond (gone v) false (bit map v)
+pub without-bit : (gone : Bits) (map v : ℕ) → v < 16 → bit (without gone map) v ≡ cond (gone v) false (bit map v)
 unfolding without
 without-bit gone map v h = bit-word-in 16 (λ (w : ℕ). cond (gone w) false (bit map w)) v h
 

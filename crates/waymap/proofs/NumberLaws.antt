@@ -1,15 +1,16 @@
 -- The numbers of ways: what the test finds, and what such a number is.
-use mathlib.Core.Path.{_≡_}
+use mathlib.Core.Path.{_≡_, sym, _∙_}
 use mathlib.Core.Logic.{_⊎_, inl, inr}
-use mathlib.Core.Bool.{true, false, not}
+use mathlib.Core.Bool.{true, false, not, true≢false}
 use Prim.Native.Nat.{ℕ, suc, _^_, _<_}
 use native.Mathlib.Omega.{arith}
-use lib.Dec.{eqb}
+use lib.Dec.{eqb, ltb}
 use lib.Pow.{pow-mono}
-use borrow.Author.Tests.{eqb-true, ne-eqb, not-true}
-use Rattle.waymap.specs.Bits.{any, reaches}
+use borrow.Author.Tests.{eqb-true, ne-eqb, ltb-true, ltb-false, not-true}
+use Rattle.waymap.specs.Bits.{bit, any, reaches}
 use Rattle.waymap.specs.Ways.{isWays, takes, Sized}
-use Rattle.waymap.proofs.Booleans.{and-left, and-right}
+use Rattle.waymap.proofs.Booleans.{cases, and-left, and-right}
+use Rattle.waymap.proofs.WordLaws.{bit-high}
 use Rattle.waymap.proofs.WayLaws.{any-found}
 use Rattle.waymap.proofs.MapLaws.{below-reach}
 
@@ -58,6 +59,11 @@ module _ (W map : ℕ) (t : takes W map ≡ true) where
 
   pub takes-below : map < 2 ^ 16 → map < 2 ^ W
   takes-below h = below-reach W map h takes-reach
+
+  -- a way of the map is a way of the cache
+  pub takes-way : map < 2 ^ 16 → (w : ℕ) → bit map w ≡ true → w < W
+  takes-way h w e =
+      cases (ltb w W) (λ k. ltb-true w W k) (λ k. absurd (true≢false (sym e ∙ bit-high W map w (takes-below h) (ltb-false w W k))))
 
 pub takes-both : (W map : ℕ) → isWays W ≡ true → reaches W map ≡ false → takes W map ≡ true
 unfolding takes

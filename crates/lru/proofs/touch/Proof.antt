@@ -3,9 +3,9 @@ use mathlib.Core.Path.{_≡_, sym, _∙_}
 use mathlib.Core.Bool.{true}
 use native.Mathlib.Omega.{arith}
 use Rattle.waymap.specs.Ways.{takes}
-use Rattle.waymap.proofs.NumberLaws.{takes-sized}
+use Rattle.waymap.proofs.NumberLaws.{takes-sized, takes-way}
 use Rattle.lru.specs.Calls.{touchOf}
-use Rattle.lru.proofs.CallLaws.{way-lt, rank-given, untouched, touch-given}
+use Rattle.lru.proofs.CallLaws.{rank-given, untouched, touch-given}
 use Rattle.lru.proofs.touch.Statement.{statement}
 use Rattle.lru.proofs.touch.Tie as tie
 
@@ -36,7 +36,7 @@ read-requires c κs = takes-sized _ _ (taken (c .before .before))
 touched-requires : tie.Need-touched-requires
 touched-requires c κs =
     let t = c .before .before .before in
-    let h = way-lt _ _ (entry t .args .way) (taken t) (entry t .fits .map .fits) (sym (c .before .before .has .ensures) ∙ c .before .if2 .taken) in (
+    let h = takes-way _ _ (taken t) (entry t .fits .map .fits) (entry t .args .way) (sym (c .before .before .has .ensures) ∙ c .before .if2 .taken) in (
       takes-sized _ _ (taken t),
       (omega (arith, h, takes-sized _ _ (taken t) .most), rank-given _ _ _ (taken t) (entry t .args .way) h (c .read .ensures)),
     )
