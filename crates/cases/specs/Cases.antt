@@ -1,5 +1,5 @@
 -- The worked cases in one list. First cases B to I of document 01 and step 5 of its case A: what the rules give, and what document 01
--- prints. Then those of document 02's jobs 1 and 2, and our own cases on lent states: what the rules give, and what was worked out by hand.
+-- prints. Then those of document 02's jobs 4, 1 and 2, and our own cases on lent states: what the rules give, and what was worked out by hand.
 use mathlib.Core.Bool.{Bool, cond}
 use mathlib.Core.List.{List, [], _∷_, _++_, map}
 use Prim.Native.Nat.{ℕ, _+_, _*_}
@@ -63,5 +63,7 @@ cases u =
     ∷ record { given = freeNodes 1 ∷ []; printed = 0 ∷ [] }
     -- I: "NRU, map 6, word 0: victim way 1; after its touch bits 1 and 2 are 0 and 1"
     ∷ record { given = nru 8 .victim 6 0 ∷ nru 8 .touch 6 1 (nru 8 .before 6 0) ∷ []; printed = 1 ∷ 4 ∷ [] }
+    -- job 4: map 6 has free node 1, and of a word with node 1 set a touch of way 3, outside the map, leaves it; one of way 2 turns it
+    ∷ record { given = tree 8 .touch 6 3 2 ∷ tree 8 .touch 6 2 2 ∷ []; printed = 2 ∷ 0 ∷ [] }
     -- job 1's, job 2's, and our own
     ∷ (orders ++ (lookups ++ lent))

@@ -242,6 +242,21 @@ accesses =
     (row (5 ∷ 6 ∷ []) 3 0 1 (domain 3 0 1 2 3 4 5 ∷ []))
     (hit 1)
     (row (5 ∷ 6 ∷ []) 3 0 1 (domain 3 0 2 2 3 4 5 ∷ []))
+    -- document 02, job 4: it "turns no node on a touch outside the fill map". Fill map 6 has free node 0, above the locked way 3 and above way 2
+    ∷ after (plru 1 4) (loads 0 (line 8))
+    (row (5 ∷ 6 ∷ 7 ∷ 8 ∷ []) 15 0 7 (domain 15 6 1 2 3 4 5 ∷ []))
+    (hit 3)
+    (row (5 ∷ 6 ∷ 7 ∷ 8 ∷ []) 15 0 7 (domain 15 6 2 2 3 4 5 ∷ []))
+    -- a store to a locked line marks it dirty, and turns no node either
+    ∷ after (plru 1 4) (stores 0 (line 5))
+    (row (5 ∷ 6 ∷ 7 ∷ 8 ∷ []) 15 0 0 (domain 15 6 1 2 3 4 5 ∷ []))
+    (hit 0)
+    (row (5 ∷ 6 ∷ 7 ∷ 8 ∷ []) 15 1 0 (domain 15 6 2 2 3 4 5 ∷ []))
+    -- way 2 is in the fill map: node 0 turns away from it, and nodes 1 and 2, which are not free, stay
+    ∷ after (plru 1 4) (loads 0 (line 7))
+    (row (5 ∷ 6 ∷ 7 ∷ 8 ∷ []) 15 0 7 (domain 15 6 1 2 3 4 5 ∷ []))
+    (hit 2)
+    (row (5 ∷ 6 ∷ 7 ∷ 8 ∷ []) 15 0 6 (domain 15 6 2 2 3 4 5 ∷ []))
     -- "Touching w clears its bit if w is in the fill map": here it is in the hit map alone
     ∷ after (nru 1 2) (loads 0 (line 6))
     (row (5 ∷ 6 ∷ []) 3 0 3 (domain 3 1 1 2 3 4 5 ∷ []))

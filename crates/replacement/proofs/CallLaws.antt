@@ -99,9 +99,9 @@ module _ (W : ℕ) (w : isWays W ≡ true) where
   unfolding Tree.victimOf
   tree-victim x map r = rw (NumberLaws.takes-both W map w r)
 
-  pub tree-touch : (x map way : ℕ) → reaches W map ≡ false → way < W → Tree.touchOf W x map way ≡ tree W .touch map way x
+  pub tree-touch : (x map way : ℕ) → reaches W map ≡ false → Tree.touchOf W x map way ≡ tree W .touch map way x
   unfolding Tree.touchOf
-  tree-touch x map way r h = rw (NumberLaws.takes-both W map w r, lt-ltb way W h)
+  tree-touch x map way r = rw (NumberLaws.takes-both W map w r)
 
   pub tree-own : (x map : ℕ) → reaches W map ≡ false → Tree.ownOf W x map ≡ tree W .part map x
   unfolding Tree.ownOf

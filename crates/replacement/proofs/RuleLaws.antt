@@ -1,13 +1,13 @@
--- Tree-PLRU, NRU and true LRU keep domains apart: `Isolates` of each.
+-- Tree-PLRU, NRU and true LRU keep domains apart, `Isolates` of each, and leave their word alone on a touch outside the fill map: `Laws` of each.
 use mathlib.Core.Path.{_≡_, refl, sym, ap, _∙_}
-use mathlib.Core.Bool.{Bool, true, false, cond, _&&_, xor, and-comm}
+use mathlib.Core.Bool.{Bool, true, false, cond, _&&_, xor, and-comm, and-false}
 use Prim.Native.Nat.{ℕ, zero, suc, _-_, _≤_, _<_}
 use native.Mathlib.Omega.{arith}
-use lib.Dec.{eqb, ltb}
+use lib.Dec.{eqb, ltb, lit≤}
 use borrow.Author.Tests.{ltb-true, lt-ltb}
 use Rattle.waymap.specs.Bits.{Bits, bit, word}
 use Rattle.waymap.proofs.Booleans.{cases, and-left, and-right, or-none, not-both}
-use Rattle.waymap.proofs.WordLaws.{word-ext, bit-word}
+use Rattle.waymap.proofs.WordLaws.{word-ext, word-lt, bit-word, from-bits}
 use Rattle.waymap.proofs.WayLaws.{none-at, any-ext, any-none}
 use Rattle.tree.specs.Tree as Tree
 use Rattle.tree.proofs.TreeLaws as TreeLaws
@@ -17,6 +17,7 @@ use Rattle.lru.specs.Lru as Lru
 use Rattle.lru.proofs.LruLaws as LruLaws
 use Rattle.replacement.specs.Rule.{bit64, tree, nru, lru, ruleOf}
 use Rattle.replacement.specs.Isolates.{Isolates, SameOwn}
+use Rattle.replacement.specs.Laws.{Laws}
 
 -- ---- the view of a 64-bit word
 
@@ -61,11 +62,11 @@ tree-isolates W bound = record {
   victim-in = λ map x e. TreeLaws.victim-in W (bit map) (bit x) e;
   victim-own = λ map x y same. TreeLaws.victim-free W (bit map) (λ i h t. view-bit x y i (omega arith) (same i t));
   before-stays = λ map x c e. refl;
-  touch-stays = λ map w x c e. view-stays (Tree.touch W (bit map) w (bit x)) x c (rw e);
+  touch-stays = λ map w x c e. view-stays (Tree.touch W (bit map) w (bit x)) x c (rw (e, and-false (bit map w)));
   before-agrees = λ map x y c same e. e;
   touch-agrees = λ map w x y c same e.
       view-agrees (Tree.touch W (bit map) w (bit x)) (Tree.touch W (bit map) w (bit y)) x y c e
-      (λ q. ap (λ (t : Bool). cond (Tree.free W (bit map) c && Tree.under W c w) (Tree.under W (Tree.left c) w) t) q);
+      (λ q. ap (λ (t : Bool). cond (bit map w && Tree.free W (bit map) c && Tree.under W c w) (Tree.under W (Tree.left c) w) t) q);
   reset-agrees = λ old new x y c e.
       view-agrees (Tree.reset W (bit old) (bit new) (bit x)) (Tree.reset W (bit old) (bit new) (bit y)) x y c e
       (λ q. ap (λ (t : Bool). cond (xor (Tree.free W (bit old) c) (Tree.free W (bit new) c)) false t) q);
@@ -146,9 +147,45 @@ lru-isolates W bound = record {
       (and-right (bit map (c .0)) (bit map (c .1)) own);
 }
 
+-- ---- a touch outside the map, and the width of the word
+
+pub tree-laws : (W : ℕ) → W ≤ 16 → Laws W (tree W)
+tree-laws W bound = record {
+  isolates = tree-isolates W (omega arith);
+  touch-outside = λ map w x h e. TreeLaws.word-outside W map w x h e;
+  fresh-fits = lit≤ tt;
+  before-fits = λ map x h. h;
+  touch-fits = λ map w x h. word-lt 64 (Tree.touch W (bit map) w (bit x));
+  reset-fits = λ old new x h. word-lt 64 (Tree.reset W (bit old) (bit new) (bit x));
+}
+
+pub nru-laws : (W : ℕ) → W ≤ 16 → Laws W (nru W)
+unfolding Nru.touch
+nru-laws W bound = record {
+  isolates = nru-isolates W (omega arith);
+  touch-outside = λ map w x h e. sym (from-bits 64 h (λ i k. rw e));
+  fresh-fits = word-lt 64 (Nru.fresh W);
+  before-fits = λ map x h. word-lt 64 (Nru.before W (bit map) (bit x));
+  touch-fits = λ map w x h. word-lt 64 (Nru.touch (bit map) w (bit x));
+  reset-fits = λ old new x h. word-lt 64 (Nru.reset (bit old) (bit new) (bit x));
+}
+
+pub lru-laws : (W : ℕ) → W ≤ 16 → Laws W (lru W)
+lru-laws W bound = record {
+  isolates = lru-isolates W bound;
+  touch-outside = λ map w x h e. LruLaws.touch-outside W (bit map) w x e;
+  fresh-fits = LruLaws.fresh-fits W bound;
+  before-fits = λ map x h. h;
+  touch-fits = λ map w x h. LruLaws.touch-fits W bound (bit map) w x h;
+  reset-fits = λ old new x h. LruLaws.reset-fits W bound (bit old) (bit new) x h;
+}
+
 -- ---- every rule
 
+pub laws : (rule W : ℕ) → W ≤ 16 → Laws W (ruleOf rule W)
+laws zero W bound = tree-laws W bound
+laws (suc zero) W bound = nru-laws W bound
+laws (suc (suc rule)) W bound = lru-laws W bound
+
 pub isolates : (rule W : ℕ) → W ≤ 16 → Isolates W (ruleOf rule W)
-isolates zero W bound = tree-isolates W (omega arith)
-isolates (suc zero) W bound = nru-isolates W (omega arith)
-isolates (suc (suc rule)) W bound = lru-isolates W bound
+isolates rule W bound = laws rule W bound .isolates

@@ -19,17 +19,17 @@ pub fn victim(ways: usize, word: u64, map: u16) -> usize
     walk::walked(ways, (word & !mask) | (mask & nodes.right))
 }
 
-// The word after a touch of the way.
+// The word after a touch of the way. A way outside the map turns no node.
 pub fn touch(ways: usize, word: u64, map: u16, way: usize) -> u64
     ensures { λ r. ⌜ r ≡ touchOf ways word map way ⌝ }
 {
     if waymap::takes(ways, map) {} else {
         return word;
     }
-    if way < ways {
-        return path::touched(ways, word, map, way);
+    if waymap::has(map, way) {} else {
+        return word;
     }
-    word
+    path::touched(ways, word, map, way)
 }
 
 // The nodes that a change of fill map makes zero.

@@ -58,7 +58,7 @@ returns-4 : tie.Need-returns-4
 returns-4 c =
     let t = c .before .before in
     touch-given _ _ (limits t) (is-tree _ _ (c .before .if4 .taken)) _ _ _ (reach t) (t .if3 .left)
-    (c .touch .ensures ∙ tree-touch _ (sized t) _ _ _ (reach t) (t .if3 .left))
+    (c .touch .ensures ∙ tree-touch _ (sized t) _ _ _ (reach t))
 
 touch-requires-2 : tie.Need-touch-requires-2
 touch-requires-2 c κs = search needs

@@ -1,8 +1,8 @@
 -- `tree::touch` meets its contract.
 use mathlib.Core.Path.{sym, _∙_}
-use borrow.Author.Tests.{lt-ltb, le-ltb}
-use Rattle.waymap.proofs.NumberLaws.{takes-sized}
+use Rattle.waymap.proofs.NumberLaws.{takes-sized, takes-way}
 use Rattle.tree.specs.Calls.{touchOf}
+use Rattle.tree.proofs.TreeLaws.{word-outside}
 use borrow.Author.Needs.{needs}
 use Rattle.tree.proofs.touch.Statement.{statement}
 use Rattle.tree.proofs.touch.Tie as tie
@@ -14,23 +14,29 @@ returns : tie.Need-returns
 unfolding touchOf
 returns c = rw (sym (c .before .takes .ensures) ∙ c .if1 .left)
 
-touched-requires : tie.Need-touched-requires
-touched-requires c κs =
-    let entry = c .before .before .before in
-    (takes-sized (entry .args .ways) (entry .args .map) (sym (c .before .before .takes .ensures) ∙ c .before .if1 .taken), c .if2 .taken)
+has-requires : tie.Need-has-requires
+has-requires c κs = search needs
 
 returns-2 : tie.Need-returns-2
 unfolding touchOf
 returns-2 c =
     let entry = c .before .before .before .before in
-    rw (sym (c .before .before .before .takes .ensures) ∙ c .before .before .if1 .taken, lt-ltb (entry .args .way) (entry .args .ways) (c .before .if2 .taken))
-    (c .touched .ensures)
+    rw (sym (c .before .before .before .takes .ensures) ∙ c .before .before .if1 .taken)
+    (sym (word-outside (entry .args .ways) (entry .args .map) (entry .args .way) (entry .args .word) (entry .fits .word .fits)
+    (sym (c .before .has .ensures) ∙ c .if2 .left)))
+
+touched-requires : tie.Need-touched-requires
+touched-requires c κs =
+    let entry = c .before .before .before .before in
+    let taken = sym (c .before .before .before .takes .ensures) ∙ c .before .before .if1 .taken in
+    let member = sym (c .before .has .ensures) ∙ c .if2 .taken in (
+      takes-sized (entry .args .ways) (entry .args .map) taken,
+      (takes-way (entry .args .ways) (entry .args .map) taken (entry .fits .map .fits) (entry .args .way) member, member),
+    )
 
 returns-3 : tie.Need-returns-3
 unfolding touchOf
-returns-3 c =
-    let entry = c .before .before .before in
-    rw (sym (c .before .before .takes .ensures) ∙ c .before .if1 .taken, le-ltb (entry .args .way) (entry .args .ways) (c .if2 .left))
+returns-3 c = rw (sym (c .before .before .before .before .takes .ensures) ∙ c .before .before .before .if1 .taken) (c .touched .ensures)
 
 pub touch-spec : {M : Type 1} → statement M
-touch-spec = tie.close (tie.spec takes-requires returns touched-requires returns-2 returns-3)
+touch-spec = tie.close (tie.spec takes-requires returns has-requires returns-2 touched-requires returns-3)
