@@ -1,0 +1,12 @@
+-- Locked lines, shown.
+pub mod Reached
+pub mod FitLaws
+pub mod OnceLaws
+pub mod RowLaws
+pub mod OtherLaws
+pub mod StayLaws
+pub mod HoldLaws
+pub mod NearLaws
+pub mod SteerLaws
+pub mod Locking
+pub mod Witness
