@@ -12,9 +12,11 @@ import struct
 
 from comparing import Subject, print_count
 from families import Family, bad_geometry, each_length, extended, noise, truncated, wrong_number
-from traces import HEADER, MOST_STEPS, RULES, SETS, WAYS, block, step_of, submap, whole_file
+from traces import (MOST_STEPS, RULES, SETS, WAYS, under_free_nodes, block, step_of, steps_in, submap,
+                    whole_file)
 
 CALLS = [(ways, rule) for ways in WAYS for rule in RULES]
+SPREAD_CALLS = [(ways, 0) for ways in WAYS if ways > 2]  # of two ways, none is outside a map with a free node
 PLACE_BITS = 4
 LAST_LINES = ["change", "conflict"]
 
@@ -66,6 +68,13 @@ def next_map(rng, ways, before):
                        before & full ^ 1 << rng.randrange(ways), submap(rng, full & ~before)])
 
 
+def spread_map(rng, ways, _before):
+    """A map with a free node above a way outside it, if the first few choices bring one; seldom an empty map."""
+    full = (1 << ways) - 1
+    choices = (submap(rng, full) for _ in range(4))
+    return next((some for some in choices if under_free_nodes(ways, full, some)), 0)
+
+
 def reaching_map(rng, ways, before):
     """A map that, half of the time, may hold ways of W and more."""
     return rng.getrandbits(16) if rng.random() < 0.5 else next_map(rng, ways, before)
@@ -73,9 +82,9 @@ def reaching_map(rng, ways, before):
 
 # Files.
 
-def calls_file(rng, index, n, some_word, some_map):
-    """A file of n calls; every number of ways under every rule has its turn."""
-    ways, rule = CALLS[index % len(CALLS)]
+def calls_file(rng, index, n, some_word, some_map, calls=CALLS):
+    """A file of n calls; each of these numbers of ways and rules, by default every one, has its turn."""
+    ways, rule = calls[index % len(calls)]
     entries, ways_map = [], 0
     for _ in range(n):
         ways_map = some_map(rng, ways, ways_map)
@@ -83,10 +92,10 @@ def calls_file(rng, index, n, some_word, some_map):
     return whole_file((rng.choice(SETS), ways, rule), entries)
 
 
-def of_words(some_word, some_map=next_map):
+def of_words(some_word, some_map=next_map, calls=CALLS):
     """The maker of files of calls with such words and maps."""
     def maker(rng, index):
-        return calls_file(rng, index, rng.randint(0, 40), some_word, some_map)
+        return calls_file(rng, index, rng.randint(0, 40), some_word, some_map, calls)
     return maker
 
 
@@ -103,6 +112,8 @@ FAMILIES = [
     Family("twice", "orders with one place changed: a way twice, or no way", 4, of_words(twice)),
     Family("higher", "orders with a place of W or more that is not zero", 4, of_words(higher)),
     Family("bits", "any words, and words of W bits", 6, of_words(bits)),
+    Family("outside", "Tree-PLRU with free nodes above ways outside the map; empty maps", 6,
+           of_words(bits, spread_map, SPREAD_CALLS)),
     Family("edges", "zero, all ones, the lowest and the highest order, and words a bit off them", 4, of_words(edge)),
     Family("any", "words of all these sorts in one file", 4, of_words(any_word)),
     Family("reaching", "words of all sorts, and maps that reach W (5)", 3, of_words(any_word, reaching_map)),
@@ -115,7 +126,8 @@ FAMILIES = [
 # What was seen.
 
 class Census:
-    """How often each call was answered, and how often it was refused, by the reference's output."""
+    """How often each call was answered, and how often it was refused, by the reference's output; and how many touches
+    were of ways outside the map."""
 
     WORDS = ["fresh", "own", "victim", "touch", "change", "conflict"]
     LINE = re.compile(rb"^([a-z]+) (?:\d+ )?(refused )?(\d+)$", re.MULTILINE)
@@ -124,8 +136,10 @@ class Census:
         self.lines = collections.Counter()
         self.refused = collections.Counter()
         self.numbers = collections.Counter()
+        self.outside = 0
 
-    def take(self, output):
+    def take(self, data, output):
+        self.outside += touches_outside(data) if output.startswith(b"fresh ") else 0
         for word, refused, number in self.LINE.findall(output):
             self.lines[word.decode()] += 1
             self.refused[word.decode()] += bool(refused)
@@ -136,8 +150,9 @@ class Census:
         entries = self.lines["own"]
         print(f"census, by the reference's output: {entries:,} entries in {self.lines['fresh']:,} files of calls")
         for word in self.WORDS:
-            detail = f"  of them {self.refused[word]:,} refused 5" if self.refused[word] else ""
-            print_count(word, self.lines[word], detail)
+            details = [f"{self.refused[word]:,} refused 5"] if self.refused[word] else []
+            details += [f"{self.outside:,} of ways outside the map"] if word == "touch" else []
+            print_count(word, self.lines[word], f"  of them {', '.join(details)}" if details else "")
         for number, about in {0: "none", 5: "a map that reaches W", 9: "a shared node"}.items():
             print_count(f"conflict {number}", self.numbers["conflict", number], f"  {about}")
         for number, about in {1: "geometry", 10: "trace file"}.items():
@@ -145,10 +160,16 @@ class Census:
         print("  (no file can bring about refused 1 of a call: such a file is refused as a whole)")
 
 
+def touches_outside(data):
+    """How many touches of the entries of a file are of ways outside a map that is not refused."""
+    maps = [map_and_word(data, place)[0] for place in range(steps_in(data) or 0)]
+    return sum(data[2] - ways_map.bit_count() for ways_map in maps if not ways_map >> data[2])
+
+
 def describe_call(data, line):
     """The call that a line of the output is about, or what else the line is."""
-    n = struct.unpack_from("<I", data, 4)[0] if len(data) >= HEADER else None
-    if n is None or len(data) != HEADER + 10 * n:
+    n = steps_in(data)
+    if n is None:
         return f"line {line} of the output; the file has {len(data)} bytes"
     ways, rule = struct.unpack_from("<BB", data, 2)
     calls = f"{n} entries, {ways} ways, rule {rule}"

@@ -13,7 +13,7 @@ from dataclasses import dataclass, replace
 from typing import Callable
 
 from families import make
-from traces import GEOMETRIES, HEADER, step_of
+from traces import GEOMETRIES, step_of, steps_in
 
 KINDS = {0: "instruction fetch", 1: "load", 2: "store", 3: "flush", 16: "policy"}
 FIRST_LINE = re.compile(rb"(?:refused (\d+)|(\d+) (\d+) (\d+) \d+)\n")
@@ -97,8 +97,9 @@ class Census:
     """How often each answer came up, by the reference's listings."""
 
     WORDS = ["hit", "fill", "evict", "pass", "flush", "absent", "policy"]
-    DETAILS = {"evict": ("dirty", re.compile(rb" \d+ \d+ 1")), "flush": ("dirty", re.compile(rb" \d+ 1")),
-               "policy": ("dropping lines", re.compile(rb" [1-9]\d* \d+"))}
+    DETAILS = {"hit": "in locked ways", "evict": "dirty", "flush": "dirty", "policy": "dropping lines"}
+    FIELDS = {"evict": re.compile(rb" \d+ \d+ 1"), "flush": re.compile(rb" \d+ 1"),
+              "policy": re.compile(rb" [1-9]\d* \d+")}  # with which an answer has its detail
     STEP_NUMBERS = {3: "domain 16 or more", 4: "unknown kind", 5: "policy argument", 6: "empty hit map",
                     8: "shared way", 9: "shared node"}
     FILE_NUMBERS = {1: "geometry", 10: "trace file"}
@@ -114,7 +115,7 @@ class Census:
         self.geometries = collections.Counter()
         self.domain_lines = 0
 
-    def take(self, listing):
+    def take(self, data, listing):
         first = FIRST_LINE.match(listing)
         if first is None:
             return
@@ -123,13 +124,15 @@ class Census:
             return
         self.geometries[int(first[2]), int(first[3]), int(first[4])] += 1
         self.domain_lines += listing.count(b"\ndomain ")
-        for number, word, fields in STEP_LINE.findall(listing):
+        answers = STEP_LINE.findall(listing)
+        self.details["hit"] += locked_hits(data, answers)
+        for number, word, fields in answers:
             if number:
                 self.refused_steps[int(number)] += 1
                 continue
             word = word.decode()
             self.answers[word] += 1
-            if word in self.DETAILS and self.DETAILS[word][1].fullmatch(fields):
+            if word in self.FIELDS and self.FIELDS[word].fullmatch(fields):
                 self.details[word] += 1
             if word == "policy":
                 self.most_dropped = max(self.most_dropped, int(fields.split()[0]))
@@ -138,7 +141,7 @@ class Census:
         steps = sum(self.answers.values()) + sum(self.refused_steps.values())
         print(f"census, by the reference's listings: {steps:,} steps in {sum(self.geometries.values()):,} traces")
         for word in self.WORDS:
-            detail = f"  of them {self.details[word]:,} {self.DETAILS[word][0]}" if word in self.DETAILS else ""
+            detail = f"  of them {self.details[word]:,} {self.DETAILS[word]}" if word in self.DETAILS else ""
             detail += f", at most {self.most_dropped:,}" if word == "policy" else ""
             print_count(word, self.answers[word], detail)
         for number, about in self.STEP_NUMBERS.items():
@@ -150,6 +153,19 @@ class Census:
         seen = sum(1 for geometry in self.GEOMETRIES if self.geometries[geometry])
         print_count("geometries", seen, f"  of {len(self.GEOMETRIES)}, the rarest in {rarest:,} traces")
         print(f"  (no file can bring about {self.NEVER})")
+
+
+def locked_hits(data, answers):
+    """How many of the answers to a file are hits in ways outside the fill map of their domain."""
+    fill_maps, locked = collections.Counter(), 0
+    for place, (_, word, fields) in enumerate(answers[:steps_in(data) or 0]):
+        if word == b"policy":
+            domain, _, argument = step_of(data, place)
+            fill_maps[domain] = argument >> 16
+        elif word == b"hit":
+            domain, _, _ = step_of(data, place)
+            locked += not fill_maps[domain] >> int(fields) & 1
+    return locked
 
 
 def print_count(name, number, rest=""):
@@ -183,8 +199,8 @@ def about_steps(output, first):
     """The function that says which step a line of such an output is about, or what else the line is; the line of step 0
     is `first`."""
     def describe(data, line):
-        n = struct.unpack_from("<I", data, 4)[0] if len(data) >= HEADER else None
-        if n is None or len(data) != HEADER + 10 * n:
+        n = steps_in(data)
+        if n is None:
             return f"line {line} of the {output}; the file has {len(data)} bytes"
         sets, ways, rule = struct.unpack_from("<HBB", data)
         trace = f"{n} steps, {sets} sets, {ways} ways, rule {rule}"
@@ -294,7 +310,7 @@ class Comparison:
         proved = run(self.proved, *given)
         proved = replace(proved, listing=self.subject.proved_text(file.data, proved.listing))
         self.tried += 1
-        self.census.take(reference.listing)
+        self.census.take(file.data, reference.listing)
         if not agreed(proved, reference):
             self.differences.append(Difference(self.subject, file, proved, reference, self.keeper.keep(file)))
 

@@ -149,5 +149,5 @@ def report(proved, reference, options):
                 print(f"  {name}: the programs do not agree on this trace; compare them first")
                 return 1
             counts = [per_step(program, trace, pathlib.Path(directory)) for program in (proved, reference)]
-            print_row(name, *counts, f"{about} ({answers(outcome.listing)})")
+            print_row(name, *counts, f"{about} ({answers(trace.file(), outcome.listing)})")
     return 0

@@ -8,6 +8,7 @@ import random
 from dataclasses import dataclass
 from typing import Callable
 
+from locked import add_round
 from traces import (FETCH, FLUSH, GEOMETRIES, HEADER, LARGEST_FILE, LOAD, MOST_STEPS, POLICY, RULES, SETS, STORE, WAYS,
                     Mix, Trace, grow, header, whole_file)
 
@@ -50,6 +51,17 @@ def short(rng, _index):
 def long(rng, _index):
     mix = rng.choice([Mix(), Mix(policy=40, relock=8), Mix(crowd=(1, 3)), Mix(crowd=(0.3, 0.7), flush=30)])
     return grow(Trace(rng, some_geometry(rng)), mix, MOST_STEPS - rng.choice([0, 0, 0, 1])).file()
+
+
+def with_locks(sets=SETS):
+    """The maker of traces with locked lines, at one of these numbers of sets."""
+    def maker(rng, _index):
+        geometry = rng.choice(sets), rng.choice([4, 8, 16]), rng.choices(RULES, [8, 1, 1])[0]
+        trace = Trace(rng, geometry)
+        for _ in range(rng.randint(1, 6)):
+            add_round(trace)
+        return trace.file()
+    return maker
 
 
 def each_geometry(rng, index):
@@ -196,9 +208,10 @@ FAMILIES = [
     Family("moves", "ways move between domains; domains are removed and put back", 8,
            of_mix(Mix(policy=30, move=12, remove=8, crowd=(0.3, 1)))),
     Family("locks", "fill maps change under the same hit map: locked ways, `pass`", 10,
-           of_mix(Mix(policy=15, relock=20, shut=4, crowd=(0.5, 2), used_sets=2))),
+           of_mix(Mix(policy=10, relock=30, shut=4, crowd=(0.5, 2), used_sets=2, rules=(0, 0, 1, 2)))),
+    Family("locked", "hits in locked ways, and evictions beside them, mostly under Tree-PLRU", 14, with_locks()),
     Family("tree", "Tree-PLRU with maps that cross subtrees and share nodes (9)", 8,
-           of_mix(Mix(policy=20, share=15, relock=10, crowd=(0.5, 2), used_sets=2, rules=(0,)))),
+           of_mix(Mix(policy=15, share=15, relock=20, crowd=(0.5, 2), used_sets=2, rules=(0,)))),
     Family("nru", "NRU with small maps and many evictions", 4,
            of_mix(Mix(policy=10, relock=10, crowd=(0.5, 2), used_sets=2, rules=(1,)))),
     Family("lru", "LRU with hits that turn the order round, and ways that change hands", 6,

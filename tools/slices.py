@@ -10,7 +10,8 @@ import comparing
 import families
 from comparing import Subject, about_steps
 from families import (Family, bad_geometry, both, each_length, extended, flipped_body, flipped_header, near_length,
-                      noise, of_mix, oversize, some_geometry, too_many_steps, truncated, wild, wrong_number)
+                      noise, of_mix, oversize, some_geometry, too_many_steps, truncated, wild, with_locks,
+                      wrong_number)
 from traces import (GEOMETRIES, LOAD, MOST_STEPS, RULES, STORE, WAYS, Mix, Trace, change_grant, change_move,
                     change_relock, change_remove, grow, whole_file)
 
@@ -118,7 +119,8 @@ FAMILIES = [
     Family("evictions", "more lines than ways, so that most accesses evict", 4,
            larger(Mix(crowd=(1, 3), used_sets=2, flush=2))),
     Family("locks", "fill maps change under the same hit map: locked ways, `pass`", 4,
-           larger(Mix(policy=15, relock=20, shut=4, crowd=(0.5, 2)))),
+           larger(Mix(policy=10, relock=30, shut=4, crowd=(0.5, 2), rules=(0, 0, 1, 2)))),
+    Family("locked", "hits in locked ways, and evictions beside them, mostly under Tree-PLRU", 8, with_locks(LARGER)),
     Family("moves", "ways move between domains; domains are removed and put back", 5,
            larger(Mix(policy=30, move=12, remove=8, crowd=(0.3, 1)))),
     Family("addresses", "lines from the whole 64 bits, tags of many digits", 3, larger(Mix(wide=0.9))),

@@ -72,10 +72,10 @@ class Times:
         return f"  {name:<10} {self.median:>8.0f} {self.minimum:>8.0f} {self.spread:>8.0f}"
 
 
-def answers(listing):
-    """What a listing mostly consists of, in a few words."""
+def answers(data, listing):
+    """What the listing of a file mostly consists of, in a few words."""
     census = Census()
-    census.take(listing)
+    census.take(data, listing)
     census.answers["refused"] = census.refused_steps.total()
     return ", ".join(f"{number} {word}" for word, number in census.answers.most_common() if number)
 
@@ -109,7 +109,7 @@ def report(proved, reference, options):
             data = trace(options.seed, name, geometry, mix)
             path.write_bytes(data)
             outcome = run(reference, data, options.timeout)
-            print(f"\n{name}: {about}\n  ({answers(outcome.listing)})", flush=True)
+            print(f"\n{name}: {about}\n  ({answers(data, outcome.listing)})", flush=True)
             if not agreed(run(proved, data, options.timeout), outcome):
                 print("  the programs do not agree on this trace; compare them first")
                 return 1

@@ -37,6 +37,12 @@ def whole_file(geometry, steps):
     return header(*geometry, len(steps)) + body(steps)
 
 
+def steps_in(data):
+    """The number of steps of a file that has the length for them; none of another."""
+    n = struct.unpack_from("<I", data, 4)[0] if len(data) >= HEADER else None
+    return n if n is not None and len(data) == HEADER + 10 * n else None
+
+
 def step_of(data, place):
     """The domain, kind and argument of one step of a file that stands."""
     n = struct.unpack_from("<I", data, 4)[0]
@@ -71,6 +77,23 @@ def free_nodes(ways, fill_map):
         deeper = below(2 * node + 1, first, half) | below(2 * node + 2, first + half, half)
         return deeper | (1 << node if left and right else 0)
     return below(0, 0, ways)
+
+
+@functools.lru_cache(maxsize=None)
+def nodes_above(ways, way):
+    """The nodes of the replacement tree on the path to a way, as bits of a word."""
+    node, nodes = ways - 1 + way, 0
+    while node:
+        node = (node - 1) // 2
+        nodes |= 1 << node
+    return nodes
+
+
+def under_free_nodes(ways, hit_map, fill_map):
+    """The locked ways, in the hit map and not in the fill map, that have a free node of the fill map above them."""
+    free = free_nodes(ways, fill_map)
+    locked = hit_map & ~fill_map
+    return [way for way in range(ways) if locked >> way & 1 and free & nodes_above(ways, way)]
 
 
 # A trace in the making.
@@ -173,15 +196,22 @@ def change_remove(trace):
         trace.set_policy(domain, *maps)
 
 
-def change_relock(trace):
-    """Another fill map under the same hit map: lines stay, ways are locked and unlocked."""
-    domain = trace.member()
-    hit_map, _ = trace.maps(domain)
-    for _ in range(4):
-        fill_map = submap(trace.rng, hit_map)
-        if fill_map and trace.stands(domain, hit_map, fill_map):
+def lock(trace, domain):
+    """Another fill map under the same hit map: lines stay, ways are locked and unlocked. Most of these maps have a free
+    node above a locked way, if the first few choices bring one: no hit in that way turns it."""
+    rng, hit_map = trace.rng, trace.maps(domain)[0]
+    spread = rng.random() < 0.7
+    for _ in range(8):
+        fill_map = submap(rng, hit_map)
+        wanted = under_free_nodes(trace.ways, hit_map, fill_map) if spread else fill_map
+        if wanted and trace.stands(domain, hit_map, fill_map):
             break
     trace.set_policy(domain, hit_map, fill_map)
+
+
+def change_relock(trace):
+    """A domain locks and unlocks ways."""
+    lock(trace, trace.member())
 
 
 def change_shut(trace):

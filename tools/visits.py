@@ -55,7 +55,7 @@ class Census:
         self.traces = 0
         self.refused_files = 0
 
-    def take(self, output):
+    def take(self, _data, output):
         if output == b"refused\n":
             self.refused_files += 1
             return

@@ -301,6 +301,22 @@ fn conflicts_and_victims_of_the_rules_called_alone() {
     assert_eq!(of_rule(2, "victim"), ["victim 0 0", "victim 1 0", "victim 1 0", "victim refused 5"]);
 }
 
+/// Eight ways. Map 6 has one free node, which is on the paths to ways 0 to 3; then comes the empty map. Every bit of
+/// both words is one. A way of the map turns that node, or clears its bit; a way outside leaves the word.
+#[test]
+fn touches_outside_the_map_of_the_rules_called_alone() {
+    let ones = u64::MAX;
+    for (rule, in_map) in [(0, [ones, ones - 0b10]), (1, [ones - 0b010, ones - 0b100])] {
+        let text = rules::of_file(&file(1, 8, rule, &[(6, 0, ones), (0, 0, ones)]));
+        let touches: Vec<&str> = text.lines().filter(|line| line.starts_with("touch")).collect();
+        let of_map = |way: usize| if [1, 2].contains(&way) { in_map[way - 1] } else { ones };
+        for way in 0..8 {
+            assert_eq!(touches[way], format!("touch {way} {}", of_map(way)), "rule {rule}");
+            assert_eq!(touches[9 + way], format!("touch {way} {ones}"), "rule {rule}");
+        }
+    }
+}
+
 /// Domain 15 has ways 9 to 11 and 13 of sixteen: four without a hit, the first two up to way 10. A file without a step
 /// has no number, and a refused one has none either.
 #[test]

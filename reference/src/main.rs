@@ -3,12 +3,12 @@
 //! It reads a trace file from standard input and writes the listing that document 01, "Trace file and listing",
 //! defines; with the argument `rules` it writes what the replacement rules called alone give, with `visits` how many
 //! ways the lookup of each step visited, and with `slices` the listing of its steps as calls, which may have more sets
-//! than a trace file. It was written from document 01 and, for true LRU, the order of work in the lookup and larger
-//! slices, document 02, without packages, so that `tools/compare` can set it beside the proved programs. The rules,
-//! [`tree`], [`nru`] and [`lru`], the lookup that counts its visits, `find` in [`cache`], and the limits of sets, in
-//! [`geometry`] and [`trace`], were written without a look at their proved code. [`rules`] and `HandOver` in
-//! [`replacement`] were not: the source of the crate replacement had been read, for its public calls. Nothing here is
-//! proved: where two programs differ, these documents decide which of them is wrong.
+//! than a trace file. It was written from document 01 and, for true LRU, the order of work in the lookup, larger slices
+//! and touches outside the fill map, document 02, without packages, so that `tools/compare` can set it beside the
+//! proved programs. The rules, [`tree`], [`nru`] and [`lru`], the lookup that counts its visits, `find` in [`cache`],
+//! and the limits of sets, in [`geometry`] and [`trace`], were written without a look at their proved code. [`rules`]
+//! and `HandOver` in [`replacement`] were not: the source of the crate replacement had been read, for its public calls.
+//! Nothing here is proved: where two programs differ, these documents decide which of them is wrong.
 //!
 //! Each module is one part of document 01, or of document 02 where it says so, and quotes the sentence that it follows.
 //! A module uses only modules that stand before it in this list:

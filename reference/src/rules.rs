@@ -84,7 +84,7 @@ fn victim(geometry: &Geometry, word: u64, map: Map) -> Result<(usize, u64), Refu
     Ok(replacement::victim(geometry, word, map))
 }
 
-/// 5 also for a "touched way reaching W or higher". A way that is not in the map is not refused.
+/// 5 also for a "touched way reaching W or higher". A way that is not in the map is not refused, and leaves the word.
 fn touch(geometry: &Geometry, word: u64, map: Map, way: usize) -> Result<u64, Refusal> {
     fits(geometry, map)?;
     if way >= geometry.ways {

@@ -3,7 +3,7 @@
 //! "Nodes 0 to W − 2; node 0 is the root, node i has children 2i + 1 (left, lower ways) and 2i + 2 (right)."
 //! Counting on below the last nodes, the children are the ways themselves: number W − 1 + w is way w.
 
-use crate::maps::{all_ways, Map};
+use crate::maps::{all_ways, holds, Map};
 
 fn left_child(node: usize) -> usize {
     2 * node + 1
@@ -61,9 +61,13 @@ pub fn victim(ways: usize, word: u64, fill_map: Map) -> usize {
     node - (ways - 1)
 }
 
-/// "Touching way w sets each free node on the path to w so that it points away from w; no other bit moves." The path
-/// is gone from the way up to the root.
+/// "Touching way w sets each free node on the path to w so that it points away from w; no other bit moves." By document
+/// 02, "the block's next release turns no node on a touch outside the fill map." The path is gone from the way up to
+/// the root.
 pub fn touch(ways: usize, word: u64, fill_map: Map, way: usize) -> u64 {
+    if !holds(fill_map, way) {
+        return word;
+    }
     let mut word = word;
     let mut below = ways - 1 + way;
     while below > 0 {
@@ -80,7 +84,6 @@ pub fn touch(ways: usize, word: u64, fill_map: Map, way: usize) -> u64 {
 #[cfg(test)]
 mod tests {
     use super::*;
-    use crate::maps::holds;
 
     /// The ways below a node by the text alone: from the root down, left the lower half, right the upper.
     fn ways_below_by_halving(ways: usize, node: usize) -> std::ops::Range<usize> {
@@ -151,6 +154,62 @@ mod tests {
             let touched = victim(16, 0, fill_map);
             let next = victim(16, touch(16, 0, fill_map, touched), fill_map);
             assert_eq!(next == touched, fill_map.count_ones() == 1);
+        }
+    }
+
+    /// Every map at two, four and eight ways with every word of their nodes; the empty map too, which holds no way.
+    #[test]
+    fn a_touch_outside_the_map_leaves_the_word() {
+        for ways in [2, 4, 8] {
+            for fill_map in 0..=all_ways(ways) {
+                for way in (0..ways).filter(|&way| !holds(fill_map, way)) {
+                    for word in (0..1 << (ways - 1)).chain([u64::MAX]) {
+                        assert_eq!(touch(ways, word, fill_map, way), word, "{ways} {fill_map} {way}");
+                    }
+                }
+            }
+        }
+    }
+
+    #[test]
+    fn a_touch_outside_the_map_at_sixteen_ways() {
+        for fill_map in 0..=u16::MAX {
+            let mixed = u64::from(fill_map).wrapping_mul(0x9e37_79b9_7f4a_7c15);
+            for way in (0..16).filter(|&way| !holds(fill_map, way)) {
+                for word in [0, u64::MAX, mixed] {
+                    assert_eq!(touch(16, word, fill_map, way), word, "{fill_map} {way}");
+                }
+            }
+        }
+    }
+
+    /// Of map 6, ways 1 and 2, only node 1 is free, and it is on the path to each of ways 0 to 3. Way 1 turns it right
+    /// and way 2 left; ways 0 and 3, beside them, and way 4 do not turn it.
+    #[test]
+    fn a_free_node_is_turned_by_ways_of_the_map_alone() {
+        assert_eq!(free_nodes(8, 6), 0b10);
+        for word in [0, 0b10] {
+            let touched = [0, 1, 2, 3, 4].map(|way| touch(8, word, 6, way));
+            assert_eq!(touched, [word, 0b10, 0, word, word]);
+        }
+    }
+
+    /// A way of the map, by the text alone: each free node above it points to its other half, and no other bit moves.
+    #[test]
+    fn a_touch_in_the_map_turns_the_free_nodes_on_its_path() {
+        for ways in [2, 4, 8] {
+            for fill_map in 1..=all_ways(ways) {
+                for way in (0..ways).filter(|&way| holds(fill_map, way)) {
+                    let turned = |word: u64, node: usize| match ways_below_by_halving(ways, node) {
+                        below if !below.contains(&way) || !is_free(ways, node, fill_map) => word >> node & 1,
+                        below => u64::from(way < (below.start + below.end) / 2),
+                    };
+                    for word in 0..1 << (ways - 1) {
+                        let due: u64 = (0..ways - 1).map(|node| turned(word, node) << node).sum();
+                        assert_eq!(touch(ways, word, fill_map, way), due, "{ways} {fill_map} {way} {word}");
+                    }
+                }
+            }
         }
     }
 }

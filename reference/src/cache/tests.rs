@@ -150,6 +150,59 @@ fn a_locked_way_is_hit_and_not_filled() {
     assert_eq!(cache.replacement[0], 0b01);
 }
 
+/// Lines 0 to 3 in ways 0 to 3; then ways 0 and 3 are locked, with lines 0 and 3 in them.
+fn locked(rule: Rule) -> Cache {
+    let mut cache = cache(4, rule);
+    cache.step(&policy(0b1111, 0b1111));
+    for line in 0..4 {
+        assert_eq!(cache.step(&Step { kind: 1, ..store(line) }), Answer::Fill { way: line as usize });
+    }
+    cache.step(&policy(0b1111, 0b0110));
+    cache
+}
+
+/// Fetch, load and store, with every word of three bits. Under LRU none of these words is an order.
+#[test]
+fn a_hit_in_a_locked_way_leaves_the_word_under_every_rule() {
+    for rule in [Rule::TreePlru, Rule::Nru, Rule::Lru] {
+        let mut cache = locked(rule);
+        for word in 0..8 {
+            cache.replacement[0] = word;
+            for (kind, way) in [(0, 0), (1, 3), (2, 0), (2, 3)] {
+                assert_eq!(cache.step(&Step { kind, ..store(way as u64) }), Answer::Hit { way });
+                assert_eq!(cache.replacement[0], word, "{rule:?}");
+            }
+        }
+        assert_eq!(cache.dirty[0], 0b1001);
+    }
+}
+
+/// Node 0 is free for ways 1 and 2, and on the path to each way. The hit in way 1 turns it right and the fill of way 2
+/// left; locked hits leave it, so that the way used longer ago is evicted. If they turned it, a hit in way 3 would push
+/// out line 1, and a hit in way 0 line 4, each of them just used.
+#[test]
+fn a_hit_in_a_locked_way_does_not_steer() {
+    for locked_line in [0, 3] {
+        let mut cache = locked(Rule::TreePlru);
+        assert_eq!(cache.step(&store(1)), Answer::Hit { way: 1 });
+        assert_eq!(cache.step(&store(locked_line)), Answer::Hit { way: locked_line as usize });
+        assert_eq!(cache.replacement[0], 0b001);
+        assert_eq!(cache.step(&store(4)), Answer::Evict { way: 2, tag: 2, dirty: false });
+        assert_eq!(cache.step(&store(locked_line)), Answer::Hit { way: locked_line as usize });
+        assert_eq!(cache.step(&store(5)), Answer::Evict { way: 1, tag: 1, dirty: true });
+    }
+}
+
+/// A flushed line of a locked way is gone: the way is in no fill map, so that nothing fills it and a miss evicts.
+#[test]
+fn a_flushed_locked_way_stays_invalid() {
+    let mut cache = locked(Rule::TreePlru);
+    assert_eq!(cache.step(&store(0)), Answer::Hit { way: 0 });
+    assert_eq!(cache.step(&flush(0)), Answer::Flush { way: 0, dirty: true });
+    assert_eq!(cache.step(&store(0)), Answer::Evict { way: 1, tag: 1, dirty: false });
+    assert_eq!(cache.valid[0], 0b1110);
+}
+
 /// "A way handed over with its replacement bits as the last owner left them": node 0 points right when domain 0
 /// leaves, and left again for domain 1.
 #[test]
