@@ -57,7 +57,7 @@ class Explainer:
         answer = self._listing.answers[place]
         before, after = self._blocks[place], self._blocks[place + 1]
         yield self._paint("bold", f"step {place}  {words.step(step)}")
-        yield from self._answer(answer)
+        yield from self._answer(answer, _locked(before, step.domain))
         if after.visited:
             yield f"  The lookup visited {counted(after.visited, 'way')}."
         if answer.word == "policy" or answer.word == "refused" and answer.fields[0] in _BY_STATE:
@@ -68,10 +68,10 @@ class Explainer:
         yield from self._changes(numbers, before, after)
         self._rows.update(after.rows)
 
-    def _answer(self, answer: Answer) -> Iterator[str]:
+    def _answer(self, answer: Answer, locked: int) -> Iterator[str]:
         """Tell the answer, as listed and in words."""
         yield "  " + self._paint(_COLOURS.get(answer.word, "yellow"), str(answer))
-        yield from textwrap.wrap(words.answer(answer), _WIDTH, initial_indent="  ", subsequent_indent="  ")
+        yield from textwrap.wrap(words.answer(answer, locked), _WIDTH, initial_indent="  ", subsequent_indent="  ")
 
     def _changes(self, numbers: list[int], before: Block, after: Block) -> Iterator[str]:
         """Tell the rows of some sets before and after a step, but no more than are wanted."""
@@ -131,6 +131,11 @@ def _maps(before: Block, after: Block) -> Iterator[str]:
             yield f"  domain {domain} has hit map {hit} and fill map {fill}"
     if not told:
         yield "  no domain has ways"
+
+
+def _locked(block: Block, domain: int) -> int:
+    """Give the map of the ways that are in a domain's hit map and not in its fill map; empty for what is no domain."""
+    return block.hit[domain] & ~block.fill[domain] if domain < len(block.hit) else 0
 
 
 def _holders(domain_maps: tuple[int, ...], way: int) -> str:

@@ -84,6 +84,9 @@ An access and a flush that are not refused also say how many ways the hit lookup
 visited: the ways of the domain's hit map, lowest first, up to and including the
 one hit, or all of them without a hit. An invalid way of the map is counted.
 
+A line that is hit or flushed in a way of the domain's hit map that is not in its
+fill map is said to be locked: no miss evicts it.
+
 FILE is as for list. There is colour on a terminal only, unless NO_COLOR is set.
 """
 

@@ -13,6 +13,7 @@ _RULE_TITLES = {0: "Tree-PLRU", 1: "NRU", LRU: "true LRU"}
 _VERBS = {0: "fetches at", 1: "loads at", 2: "stores at", 3: "flushes"}
 _PLACE = 4  # bits of a way's place in an order
 _COUNTS = ("hits", "misses", "evicted", "written back", "flushed")
+_LOCKED = {"hit": "Its line is locked", "flush": "It was locked"}
 
 
 @dataclass(frozen=True)
@@ -131,12 +132,17 @@ def counts(values: tuple[int, ...]) -> str:
     return ", ".join(f"{name} {value:,}" for name, value in zip(_COUNTS, values))
 
 
-def answer(given: Answer) -> str:
-    """Say in a sentence what an answer of the listing means."""
+def answer(given: Answer, locked: int = 0) -> str:
+    """Say in a sentence what an answer of the listing means, and in one more that a line hit or flushed is locked.
+
+    `locked` is the map of the ways that are in the domain's hit map and not in its fill map."""
     if given.word == "refused":
         return refusal(given.fields[0])
     sentence = _SENTENCES.get(given.word)
-    return sentence(*given.fields) if sentence else "This answer is not one of document 01's."
+    said = sentence(*given.fields) if sentence else "This answer is not one of document 01's."
+    if given.word in _LOCKED and given.fields[0] in maps.members(locked):
+        said += f" {_LOCKED[given.word]}: the way is not in the domain's fill map."
+    return said
 
 
 def _evict(way: int, tag: int, dirty: int) -> str:

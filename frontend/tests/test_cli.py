@@ -63,6 +63,11 @@ class Help(InFolder):
         number = "the ways of the domain's hit map, lowest first, up to and including the one hit, or all of them without a hit."
         self.assertIn(f"how many ways the hit lookup visited: {number} An invalid way of the map is counted.", said)
 
+    def test_explain_says_which_lines_are_locked(self):
+        said = " ".join(call("explain", "--help")[1].decode().split())
+        where = "in a way of the domain's hit map that is not in its fill map"
+        self.assertIn(f"A line that is hit or flushed {where} is said to be locked: no miss evicts it.", said)
+
     def test_help_says_how_many_sets_a_file_holds(self):
         for command in ("list", "assemble"):
             said = " ".join(call(command, "--help")[1].decode().split())

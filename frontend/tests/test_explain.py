@@ -12,7 +12,7 @@ from frontend.paint import Paint
 from frontend.programs import ROOT
 from frontend.run import Run
 from frontend.stepper import Row
-from frontend.tests import case_a, true_lru
+from frontend.tests import case_a, locked_lines, true_lru
 from frontend.tests.helpers import block, by_rote, call
 from frontend.tracefile import Step, Trace
 
@@ -21,6 +21,12 @@ def told(trace: Trace, listed: bytes, stream: bytes, colour: bool = False, show_
     """Tell a run of what programs might have said."""
     run = Run(trace, listing.parse(listed), stepper.parse(stream, trace))
     return "\n".join(Explainer(run, Paint(colour), show_all).lines())
+
+
+def told_of_each_step(trace: Trace, listed: bytes, stream: bytes) -> list[str]:
+    """Tell a run, and give what is told of each step, its lines joined."""
+    *steps, last = told(trace, listed, stream).split("\nstep ")[1:]
+    return [" ".join(step.split()) for step in (*steps, last.partition("\nAt the end\n")[0])]
 
 
 def told_case_a(colour: bool = False) -> str:
@@ -123,6 +129,94 @@ class TrueLru(unittest.TestCase):
             story = told(Trace(1, 4, 2, (Step(3, 0, 0),)), b"1 4 2 1\n0 pass\n", stream)
             self.assertIn(f"\n     word   {written}  {written}\n", story)
             self.assertNotIn("oldest", story)
+
+
+class LockedLines(unittest.TestCase):
+    """The example of locked lines, hits in which turn no node."""
+
+    TEXT = (ROOT / "examples" / "locked-lines.txt").read_text(encoding="ascii")
+
+    def step(self, place: int) -> str:
+        story = told(tracefile.decode(locked_lines.FILE), locked_lines.LISTING, locked_lines.STREAM)
+        return story.partition(f"\nstep {place} ")[2].partition("\n\n")[0]
+
+    def test_word(self):
+        turned = "\n  *  word   0x0     0x2 (right at node 1)"
+        stayed = "\n     word   0x2 (right at node 1)  0x2 (right at node 1)"
+        self.assertTrue(self.step(6).endswith(turned), self.step(6))
+        locked = "Its line is locked: the way is not in the domain's fill map."
+        self.assertIn(f"\n  hit 3\n  A hit in way 3. {locked}\n  The lookup visited 4 ways.\n", self.step(7))
+        self.assertTrue(self.step(7).endswith(stayed), self.step(7))
+        self.assertNotIn("*", self.step(7))
+
+    def test_which_lines_are_told_as_locked(self):
+        self.assertIn("\n  hit 1\n  A hit in way 1.\n  The lookup visited 2 ways.\n", self.step(6))
+        for example, places in ((locked_lines, [7, 9, 11, 12]), (true_lru, [10]), (case_a, [])):
+            steps = told_of_each_step(tracefile.decode(example.FILE), example.LISTING, example.STREAM)
+            self.assertEqual([place for place, step in enumerate(steps) if "lock" in step], places, example.__name__)
+
+    def test_ways_are_those_that_the_text_says(self):
+        said = re.findall(r"^3 (?:load|store) .*?\bway ([0-9])", self.TEXT, re.MULTILINE)
+        self.assertEqual(said, re.findall("(?:fill|hit|evict) ([0-9])", locked_lines.LISTING.decode()))
+
+    def test_nodes_are_those_that_the_text_says(self):
+        steps = [line for line in self.TEXT.splitlines() if line[:1].isdigit()][6:10]
+        said = [re.findall("node 1 points [a-z]+|turns no node", line) for line in steps]
+        self.assertEqual(said, [["node 1 points right"], ["turns no node"], ["node 1 points left"], ["turns no node"]])
+        blocks = stepper.parse(locked_lines.STREAM, tracefile.decode(locked_lines.FILE))
+        words = [stepper.rows_at_end(blocks[: place + 2])[0].word for place in range(6, 10)]
+        self.assertEqual(words, [0b10, 0b10, 0, 0])
+
+
+class Locked(unittest.TestCase):
+    """What is told of a hit and a flush: by the maps of the domain before the step, whatever the rule is."""
+
+    HIT = "A hit in way 2."
+    FLUSHES = (
+        "The line in way 2 was made invalid; it was not dirty.",
+        "The line in way 2 was made invalid; it was dirty, so it is written back.",
+    )
+    WHY = "the way is not in the domain's fill map."
+    IS, WAS = f" Its line is locked: {WHY}", f" It was locked: {WHY}"
+
+    def said(self, rule: int, answer: str, then: dict[int, tuple[int, int]], now: dict[int, tuple[int, int]]) -> str:
+        """Tell a step of domain 1 with the maps before and after it; give its answer in words."""
+        step, rows = Step(1, 3 if answer.startswith("flush") else 1, 0), {0: Row(0b0100, 0, 0x0123, (0,) * 4)}
+        listed, stream = f"1 4 {rule} 1\n0 {answer}\n".encode(), block(then, 0, rows) + block(now, visited=1)
+        (told_of_it,) = told_of_each_step(Trace(1, 4, rule, (step,)), listed, stream)
+        return told_of_it.partition(f" {answer} ")[2].partition(" The lookup visited ")[0]
+
+    def assert_said(self, maps: dict[int, tuple[int, int]], of_hit: str, of_flush: str) -> None:
+        """See what is added to the words of a hit and of a flush in way 2, under every rule."""
+        for rule in (0, 1, 2):
+            self.assertEqual(self.said(rule, "hit 2", maps, maps), self.HIT + of_hit, (rule, maps))
+            for dirty, flush in enumerate(self.FLUSHES):
+                self.assertEqual(self.said(rule, f"flush 2 {dirty}", maps, maps), flush + of_flush, (rule, maps))
+
+    def test_in_a_way_outside_the_fill_map(self):
+        for maps in ({1: (0b0100, 0)}, {1: (0b1111, 0b1011)}, {0: (0b1001, 0b1001), 1: (0b0110, 0b0010)}):
+            self.assert_said(maps, self.IS, self.WAS)
+
+    def test_in_a_way_of_the_fill_map(self):
+        for maps in ({1: (0b0100, 0b0100)}, {1: (0b1111, 0b0100)}, {0: (0b1011, 0), 1: (0b0100, 0b0100)}):
+            self.assert_said(maps, "", "")
+
+    def test_the_maps_are_those_before_the_step(self):
+        locking, filling = {1: (0b0100, 0)}, {1: (0b0100, 0b0100)}
+        self.assertEqual(self.said(0, "hit 2", locking, filling), self.HIT + self.IS)
+        self.assertEqual(self.said(0, "hit 2", filling, locking), self.HIT)
+
+    def test_other_answers(self):
+        maps = {1: (0b1111, 0b0010)}
+        for answer in ("fill 2", "evict 2 0 0", "pass", "absent", "policy 2 2", "refused 2"):
+            said = self.said(0, answer, maps, maps)
+            self.assertTrue(said.endswith(".") and "lock" not in said, (answer, said))
+
+    def test_answers_that_no_lister_gives(self):
+        for domain, way in ((1, 0), (1, 99), (1, 10**19), (2, 2), (16, 2), (255, 2)):
+            stream = block({1: (0b0100, 0)}, 0, {0: Row(0, 0, 0, (0,) * 4)}) + block({})
+            story = told(Trace(1, 4, 0, (Step(domain, 1, 0),)), f"1 4 0 1\n0 hit {way}\n".encode(), stream)
+            self.assertIn(f"\n  A hit in way {way}.\n", story)
 
 
 class Policies(unittest.TestCase):

@@ -161,6 +161,15 @@ class Words(unittest.TestCase):
         ):
             self.assertIn(part, words.answer(answer))
 
+    def test_answers_in_locked_ways(self):
+        for answer in (Answer("hit", (3,)), Answer("flush", (3, 0)), Answer("flush", (3, 1))):
+            plain, locked = words.answer(answer), words.answer(answer, 0b1001)
+            self.assertTrue(locked.startswith(f"{plain} I") and "locked" in locked, locked)
+            self.assertEqual((words.answer(answer, 0b0111), words.answer(answer, 0)), (plain, plain))
+        for word, count in (("fill", 1), ("evict", 3), ("pass", 0), ("absent", 0), ("policy", 2), ("refused", 1)):
+            answer = Answer(word, (3,) * count)
+            self.assertEqual(words.answer(answer, 0xFFFF), words.answer(answer))
+
     def test_steps(self):
         for step, said in (
             (Step(0, 0, 0), "domain 0 fetches at 0x0"),

@@ -7,7 +7,7 @@ import unittest
 from frontend import maps, numbers, text, tracefile
 from frontend.assembler import assemble
 from frontend.programs import ROOT
-from frontend.tests import case_a, true_lru
+from frontend.tests import case_a, locked_lines, true_lru
 from frontend.tests.helpers import random_file, random_trace
 from frontend.tracefile import Step, Trace
 
@@ -63,6 +63,10 @@ class Forms(unittest.TestCase):
     def test_true_lru(self):
         source = (ROOT / "examples" / "true-lru.txt").read_bytes()
         self.assertEqual(tracefile.encode(assemble("true-lru.txt", source)), true_lru.FILE)
+
+    def test_locked_lines(self):
+        source = (ROOT / "examples" / "locked-lines.txt").read_bytes()
+        self.assertEqual(tracefile.encode(assemble("locked-lines.txt", source)), locked_lines.FILE)
 
     def test_canonical_text(self):
         shown = text.show(tracefile.decode(case_a.FILE))

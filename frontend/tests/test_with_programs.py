@@ -11,7 +11,9 @@ import unittest
 from pathlib import Path
 
 from frontend import helptext, listing, maps, programs, run, stepper, struck, tracefile, words
-from frontend.tests import case_a, true_lru
+from frontend.explain import Explainer
+from frontend.paint import Paint
+from frontend.tests import case_a, locked_lines, true_lru
 from frontend.tests.helpers import call, needs_programs, random_trace, start
 from frontend.tracefile import Step, Trace
 
@@ -122,6 +124,52 @@ class TrueLru(unittest.TestCase):
             rows = [row for taken in stepper.parse(programs.stepper(tracefile.encode(trace)), trace) for row in taken.rows.values()]
             for row in rows:
                 self.assertIsNotNone(words.order(row.word, list(range(trace.ways))), row)
+
+
+@needs_programs
+class LockedLines(unittest.TestCase):
+    """Hits in ways outside the fill map: in the example, and in traces whose one domain locks any of its ways."""
+
+    EXAMPLE = str(programs.ROOT / "examples" / "locked-lines.txt")
+
+    def test_example(self):
+        self.assertEqual(call("list", self.EXAMPLE), (0, locked_lines.LISTING, ""))
+        self.assertEqual(programs.stepper(locked_lines.FILE), locked_lines.STREAM)
+
+    def locking_trace(self, source: random.Random, rule: int, domain: int, kinds: tuple[int, ...]) -> Trace:
+        ways = source.choice((4, 8, 16))
+        whole = (1 << ways) - 1
+        steps = [Step(domain, 16, whole | whole << 16), *(Step(domain, 1, 64 * line) for line in range(ways))]
+        for _ in range(20):
+            steps.append(Step(domain, 16, whole | source.getrandbits(ways) << 16))
+            steps += (Step(domain, source.choice(kinds), 64 * source.randrange(ways + 2)) for _ in range(8))
+        return Trace(1, ways, rule, tuple(steps))
+
+    def test_the_word_stays(self):
+        source, seen = random.Random(14), 0
+        for rule in (0, 1, 2) * 2:
+            taken = run.take("random", tracefile.encode(self.locking_trace(source, rule, 0, (0, 1, 2))))
+            word = taken.blocks[0].rows[0].word
+            for block, answer in zip(taken.blocks[1:], taken.listing.answers):
+                before, word = word, block.rows[0].word if block.rows else word
+                if answer.word == "hit" and not block.fill[0] >> answer.fields[0] & 1:
+                    seen += 1
+                    self.assertEqual(word, before, (rule, answer))
+        self.assertGreater(seen, 200)
+
+    def test_explain_tells_each(self):
+        source, seen = random.Random(15), set()
+        for rule in (0, 1, 2) * 2:
+            taken = run.take("random", tracefile.encode(self.locking_trace(source, rule, 15, (1, 2, 3))))
+            steps = re.split("\nstep [0-9]+ ", "\n".join(Explainer(taken, Paint(False), False).lines()))[1:]
+            self.assertEqual(len(steps), len(taken.trace.steps))
+            for told, block, answer in zip(steps, taken.blocks, taken.listing.answers):
+                found = answer.word in ("hit", "flush")
+                locked = found and not block.fill[15] >> answer.fields[0] & 1
+                self.assertEqual("locked" in told, locked, told)
+                if found:
+                    seen.add((rule, answer.word, locked))
+        self.assertEqual(len(seen), 12)  # under each rule a hit and a flush, locked and not
 
 
 @needs_programs
