@@ -1,8 +1,8 @@
 -- Locked lines, shown.
 pub mod Reached
 pub mod FitLaws
-pub mod OnceLaws
 pub mod RowLaws
+pub mod OnceLaws
 pub mod OtherLaws
 pub mod StayLaws
 pub mod HoldLaws

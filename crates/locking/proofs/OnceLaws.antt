@@ -7,11 +7,10 @@ use native.Mathlib.Nat.{lt-of-lt-of-le}
 use lib.Dec.{eqb, lit≤}
 use lib.ListN.{length, getD-replicate}
 use lib.Seq.{getD-set-same}
-use borrow.Author.Tests.{eqb-true, eqb-false, eq-eqb}
+use borrow.Author.Tests.{eqb-true, eqb-false}
 use Rattle.waymap.specs.Bits.{bit}
 use Rattle.waymap.proofs.Booleans.{cases, not-both}
 use Rattle.waymap.proofs.BitLaws.{bit-none}
-use Rattle.waymap.proofs.WayLaws.{none-at}
 use Rattle.replacement.specs.Rule.{Rule, ruleOf}
 use Rattle.lookup.specs.Lookup as Lookup
 use Rattle.row.specs.Row.{Row, Effect, ways, isHit, hitWay, hitAt, filled, fillAt, evictAt, accessBy, access, flushAt, flush}
@@ -40,6 +39,7 @@ use Rattle.steps.proofs.DidLaws.{Did, turned-down, used, changed, did}
 use Rattle.steps.proofs.RunLaws.{Kept, worked, worked-long, inside}
 use Rattle.isolation.proofs.LineUnwinding.{policy-cut}
 use Rattle.locking.specs.Once.{Has, OnceIn, Once}
+use Rattle.locking.proofs.RowLaws.{has-hit}
 use Rattle.locking.proofs.Reached.{Reached, run-reached, step-reached, rule, reached-kept, reached-separate}
 
 -- ---- one row
@@ -54,10 +54,7 @@ match-has m a = record { in-map = a .in-map; is-valid = sym (m .valid) ∙ a .is
 
 -- What a lookup misses is in no way of the hit map.
 missed : (r : Row) (hit tag w : ℕ) → w < ways r → isHit r hit tag ≡ false → Has hit r tag w → ⊥
-unfolding Lookup.isHit Lookup.matches
-missed r hit tag w h miss a =
-    false≢true (sym (none-at (ways r) (Lookup.matches (r .tags) (r .valid) hit tag) w miss h)
-    ∙ rw (a .in-map, a .is-valid, a .has-tag) (eq-eqb tag tag refl))
+missed r hit tag w h miss a = false≢true (sym miss ∙ has-hit hit tag r w h a)
 
 -- ---- an access
 
