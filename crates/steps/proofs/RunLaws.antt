@@ -163,6 +163,9 @@ module _ (g : Geometry) (limits : within g ≡ true) where
             rw (changed-domain g e k arg s (kept .whole))
             (good-maps (g .ways) arg (passed g (policies (g .ways) (s .domains)) e arg z .good))
 
-  -- In a run from a fresh cache stored maps need no cutting.
+  -- A run keeps it; so in a run from a fresh cache stored maps need no cutting.
+  pub kept-lasts : (cs : List Command) (s : State) → Kept s → Kept (finally g cs s)
+  kept-lasts = run-lasts g limits Kept (λ s kept. kept .whole) (λ s kept e k z. line-kept s kept e k) change-kept
+
   pub run-kept : (cs : List Command) → Kept (finally g cs (fresh g))
-  run-kept cs = run-lasts g limits Kept (λ s kept. kept .whole) (λ s kept e k z. line-kept s kept e k) change-kept cs (fresh g) fresh-kept
+  run-kept cs = kept-lasts cs (fresh g) fresh-kept

@@ -31,10 +31,11 @@ use Rattle.steps.proofs.SetLaws.{put-shaped, row-put-same, row-put-othe
 
 -- ---- a step is decided by its domain and its kind
 
-module _ (g : Geometry) (limits : within g ≡ true) (c : Command) (s : State) (w : Whole g s) where
-  sized-here : sized g (lengths (s .tables)) ≡ true
+module _ (g : Geometry) (s : State) (w : Whole g s) where
+  -- the tables are of their lengths
+  pub whole-sized : sized g (lengths (s .tables)) ≡ true
   unfolding sized
-  sized-here =
+  whole-sized =
       rw (
         w .shaped .tags-long,
         w .shaped .valid-long,
@@ -44,16 +45,17 @@ module _ (g : Geometry) (limits : within g ≡ true) (c : Command) (s : State) (
         eq-eqb (g .sets) (g .sets) refl,
       )
 
+module _ (g : Geometry) (limits : within g ≡ true) (c : Command) (s : State) (w : Whole g s) where
   -- a domain of 16 or more is refused by 3
   pub step-beyond : 16 ≤ c .domain → stepOn g c s ≡ answers (Refused 3) s
   unfolding step refusal decided
-  step-beyond h = rw (limits, sized-here, le-leb 16 (c .domain) h)
+  step-beyond h = rw (limits, whole-sized g s w, le-leb 16 (c .domain) h)
 
   -- another's step is decided by its kind
   pub step-within : c .domain < 16 → stepOn g c s ≡ decided (refusalBy (kindOf (c .kind)) g (policies (g .ways) (s .domains))
       (domainOf (s .domains) (c .domain) .counts) (c .domain) (c .argument)) (stepBy (kindOf (c .kind)) g (c .domain) (c .argument) s) s
   unfolding step refusal
-  step-within h = rw (limits, sized-here, lt-leb 16 (c .domain) h)
+  step-within h = rw (limits, whole-sized g s w, lt-leb 16 (c .domain) h)
 
 -- ---- the state after a domain's work on one set
 
