@@ -1,0 +1,103 @@
+-- A run where core records are lent is a run of the cache: that of the steps which its steps mean.
+use mathlib.Core.Path.{_≡_, refl, ap, _∙_}
+use mathlib.Core.Bool.{true}
+use mathlib.Core.List.{List, [], _∷_}
+use Prim.Native.Nat.{ℕ, _≤_}
+use lib.ListN.{length, length-set, length-replicate}
+use borrow.Author.Tests.{le-ltb}
+use Rattle.command.specs.Command.{Command}
+use Rattle.geometry.specs.Geometry.{within, sizesOf}
+use Rattle.geometry.specs.declared.Geometry.{Geometry}
+use Rattle.selectors.specs.Selectors.{
+  maxCores,
+  noCore,
+  Meant,
+  plain,
+  select,
+  refused,
+  meant,
+  recordsBy,
+  recordsAfter,
+  recordsFinally,
+  plainBy,
+  plainSteps,
+}
+use Rattle.selectors.specs.declared.Core.{Core}
+use Rattle.steps.specs.Tables.{lengths}
+use Rattle.steps.specs.Step.{State}
+use Rattle.steps.specs.Run.{finally}
+use Rattle.steps.proofs.StateLaws.{whole-sized}
+use Rattle.steps.proofs.RunLaws.{Kept, fresh-kept, kept-lasts}
+use Rattle.cores.specs.Step.{Lent, Result, answerBy, cacheBy, lentRefusal, coreStep}
+use Rattle.cores.specs.Run.{coreFinally, freshLent}
+
+module _ (g : Geometry) (limits : within g ≡ true) where
+  -- a cache that a run keeps, and no more records than there may be
+  pub record Standing (x : Lent) : Type 0 where
+    pub kept : Kept g limits (x .cache)
+    pub few : length (x .cores) ≤ maxCores
+
+  -- fresh, lent n fresh records
+  pub fresh-standing : (n : ℕ) → n ≤ maxCores → Standing (freshLent g n)
+  unfolding freshLent
+  fresh-standing n h = record { kept = fresh-kept g limits; few = rw (length-replicate n noCore) h }
+
+  -- ---- one step
+
+  -- what a step gives by its meaning
+  abbrev byMeaning : Meant → Command → Lent → Result
+  byMeaning m c x = record {
+    answer = answerBy m g (x .cache);
+    lent = record { cache = cacheBy m g (x .cache); cores = recordsBy m (c .domain) (x .cores) };
+  }
+
+  module _ (x : Lent) (s : Standing x) (c : Command) where
+    no-refusal : lentRefusal g (lengths (x .cache .tables)) (length (x .cores)) ≡ 0
+    unfolding lentRefusal sizesOf
+    no-refusal = rw (limits, whole-sized g (x .cache) (s .kept .whole), le-ltb maxCores (length (x .cores)) (s .few))
+
+    -- neither geometry, lengths nor number of records turn it down
+    pub step-means : coreStep g c x ≡ byMeaning (meant (x .cores) c) c x
+    unfolding coreStep
+    step-means = rw no-refusal
+
+  -- what it leaves stands
+  cache-kept : (m : Meant) (s : State) → Kept g limits s → Kept g limits (cacheBy m g s)
+  unfolding cacheBy finally
+  cache-kept (plain o) s k = kept-lasts g limits (o ∷ []) s k
+  cache-kept (select core) s k = k
+  cache-kept (refused n) s k = k
+
+  records-long : (m : Meant) (i : ℕ) (cores : List Core) → length (recordsBy m i cores) ≡ length cores
+  unfolding recordsBy
+  records-long (plain o) i cores = refl
+  records-long (select core) i cores = length-set cores i core
+  records-long (refused n) i cores = refl
+
+  pub step-standing : (x : Lent) → Standing x → (c : Command) → Standing (coreStep g c x .lent)
+  step-standing x s c =
+      let m = meant (x .cores) c in
+      rw (step-means x s c)
+      (record { kept = cache-kept m (x .cache) (s .kept); few = rw (records-long m (c .domain) (x .cores)) (s .few) })
+
+  -- ---- a run
+
+  -- the steps that follow, from what a step leaves
+  finally-by : (m : Meant) (cs : List Command) (s : State) → finally g cs (cacheBy m g s) ≡ finally g (plainBy m cs) s
+  unfolding cacheBy plainBy finally
+  finally-by (plain o) cs s = refl
+  finally-by (select core) cs s = refl
+  finally-by (refused n) cs s = refl
+
+  -- The cache at the end is that of the run of the steps meant, and the records are those of the steps alone: no table and no domain has a hand in them.
+  pub run-plain : (cs : List Command) (x : Lent) → Standing x
+      → coreFinally g cs x ≡ record { cache = finally g (plainSteps (x .cores) cs) (x .cache); cores = recordsFinally (x .cores) cs }
+  unfolding coreFinally finally plainSteps recordsFinally recordsAfter
+  run-plain [] x s = refl
+  run-plain (c ∷ cs) x s =
+      let m = meant (x .cores) c in
+      let next = recordsBy m (c .domain) (x .cores) in
+      run-plain cs (coreStep g c x .lent) (step-standing x s c)
+      ∙ ap (λ (r : Result). record { cache = finally g (plainSteps (r .lent .cores) cs) (r .lent .cache); cores = recordsFinally (r .lent .cores) cs })
+      (step-means x s c)
+      ∙ ap (λ (t : State). record { cache = t; cores = recordsFinally next cs }) (finally-by m (plainSteps next cs) (x .cache))
