@@ -1,13 +1,12 @@
 -- Which steps the purge keeps: those of the chosen domain, and those that are no access and no flush; and no others.
-use mathlib.Core.Path.{_≡_}
+use mathlib.Core.Path.{_≡_, sym}
 use mathlib.Core.Bool.{true, false, not, true≢false}
 use Prim.Native.Nat.{ℕ, _≤_, _<_}
 use native.Mathlib.Omega.{arith}
 use lib.Dec.{leb, ltb}
 use borrow.Author.Tests.{leb-true, leb-false, lt-ltb, le-ltb, ltb-true, ltb-false, eq-eqb, ne-eqb, not-true, not-false}
 use Rattle.waymap.proofs.Booleans.{cases}
-use Rattle.command.specs.Command.{Command, commandIs}
-use Rattle.command.specs.declared.Command.{Command as Given}
+use Rattle.command.specs.Command.{Command}
 use Rattle.purge.specs.Purge.{belongs, keeps}
 
 -- what two numbers are like by a test turned round
@@ -54,10 +53,9 @@ at-least a b = cases (leb a b)
     (λ y. rw (y, le-ltb b a (leb-true a b y)))
     (λ n. rw (n, lt-ltb b a (leb-false a b n)))
 
-pub stays-own : (d : ℕ) (s : Given) {c : Command} → commandIs s ≡ c → s .domain ≡ d → true ≡ keeps d c
-unfolding keeps
-stays-own d s e own = rw (← e, eq-eqb (s .domain) d own)
+pub stays-own : (d : ℕ) (c : Command) → c .domain ≡ d → true ≡ keeps d c
+stays-own d c own = sym (keeps-own d c own)
 
-pub stays-other : (d : ℕ) (s : Given) {c : Command} → commandIs s ≡ c → (s .domain ≡ d → ⊥) → leb 4 (s .kind) ≡ keeps d c
+pub stays-other : (d : ℕ) (c : Command) → (c .domain ≡ d → ⊥) → leb 4 (c .kind) ≡ keeps d c
 unfolding keeps
-stays-other d s e other = rw (← e, ne-eqb (s .domain) d other) (at-least 4 (s .kind))
+stays-other d c other = rw (ne-eqb (c .domain) d other) (at-least 4 (c .kind))

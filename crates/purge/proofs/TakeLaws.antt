@@ -2,29 +2,34 @@
 use mathlib.Core.Path.{_≡_, refl, sym, ap, ap₂, subst, _∙_}
 use mathlib.Core.Bool.{Bool, true, false, cond}
 use mathlib.Core.List.{List, [], _∷_, _++_, map, append-nil, append-assoc, map-append}
-use Prim.Native.Nat.{ℕ, suc, _+_, _≤_, _<_}
+use Prim.Native.Nat.{ℕ, suc, _+_, _%_, _≤_, _<_}
 use native.Mathlib.Numerals.{add-one}
 use native.Mathlib.Omega.{arith}
-use lib.ListN.{length, drop, set, getD, length-map, length-append, length-drop, drop-of-length-le}
+use lib.Dec.{ltb}
+use lib.ListN.{length, drop, set, getD, length-set, length-replicate, length-map, length-append, length-drop, drop-of-length-le}
 use borrow.Author.Tests.{eq-eqb, ne-eqb}
 use Rattle.waymap.proofs.Booleans.{cases}
 use Rattle.command.specs.Command.{Command, commandOf, codeOf, argumentOf, commandsOf}
 use Rattle.command.proofs.CommandLaws.{code-of-command}
 use Rattle.command.proofs.ListLaws.{store-next, drop-next}
-use Rattle.purge.specs.Purge.{keeps, purge}
+use Rattle.selectors.specs.Selectors.{maxCores, noCore, freshCores, Meant, meantBy, recordBy}
+use Rattle.selectors.specs.declared.Core.{Core}
+use Rattle.selectors.proofs.PlaceLaws.{place-meant, place-records}
+use Rattle.purge.specs.Purge.{keepsBy, corePurge}
 use Rattle.purge.specs.Calls.{Taken, takenOf, purgeOf}
 use Rattle.purge.specs.Inside.{takeOne}
 
 -- ---- the loop
 
 -- After i steps: the steps taken so far stand at the front of both tables, and the steps to come add what the purge keeps of them.
-pub record Taking (d : ℕ) (codes arguments outCodes outArguments newCodes newArguments : List ℕ) (count i : ℕ) : Type 0 where
+pub record Taking (d : ℕ) (codes arguments outCodes outArguments newCodes newArguments : List ℕ) (cores : List Core) (count i : ℕ) : Type 0 where
+  pub long : length cores ≡ maxCores
   pub same : length arguments ≡ length codes
   pub codes-fit : length outCodes ≡ length codes
   pub arguments-fit : length outArguments ≡ length codes
   pub inside : i ≤ length codes
   pub kept : List Command
-  pub is : purge d (commandsOf codes arguments) ≡ kept ++ purge d (commandsOf (drop i codes) (drop i arguments))
+  pub is : corePurge d (freshCores maxCores) (commandsOf codes arguments) ≡ kept ++ corePurge d cores (commandsOf (drop i codes) (drop i arguments))
   pub counted : count ≡ length kept
   pub behind : count ≤ i
   pub codes-are : newCodes ≡ map codeOf kept ++ drop (length kept) outCodes
@@ -38,8 +43,8 @@ front-long f kept out new e h =
     ∙ ap₂ _+_ (length-map kept f) (length-drop (length kept) out)
     ∙ omega arith
 
-module _ {d : ℕ} {codes arguments outCodes outArguments newCodes newArguments : List ℕ} {count i : ℕ}
-    (t : Taking d codes arguments outCodes outArguments newCodes newArguments count i) where
+module _ {d : ℕ} {codes arguments outCodes outArguments newCodes newArguments : List ℕ} {cores : List Core} {count i : ℕ}
+    (t : Taking d codes arguments outCodes outArguments newCodes newArguments cores count i) where
   room : length (t .kept) ≤ length codes
   room = let h : count ≤ length codes = omega (arith, t .behind, t .inside) in rw (t .counted) at h
 
@@ -56,8 +61,9 @@ module _ {d : ℕ} {codes arguments outCodes outArguments newCodes newArguments 
   fits-arguments h = omega (arith, t .behind, arguments-long, t .arguments-fit)
 
 pub begin : (d : ℕ) {codes arguments outCodes outArguments : List ℕ} → length arguments ≡ length codes → length outCodes ≡ length codes
-    → length outArguments ≡ length codes → Taking d codes arguments outCodes outArguments outCodes outArguments 0 0
+    → length outArguments ≡ length codes → Taking d codes arguments outCodes outArguments outCodes outArguments (freshCores maxCores) 0 0
 begin d s c a = record {
+  long = length-replicate maxCores noCore;
   same = s;
   codes-fit = c;
   arguments-fit = a;
@@ -86,22 +92,41 @@ ahead : (codes arguments : List ℕ) {i : ℕ} → i < length codes → length a
 unfolding commandsOf
 ahead codes arguments {i} h s = rw (drop-next i codes 0 h, drop-next i arguments 0 (rw s h))
 
-module _ {d : ℕ} {codes arguments outCodes outArguments newCodes newArguments : List ℕ} {count i : ℕ}
-    (t : Taking d codes arguments outCodes outArguments newCodes newArguments count i) (h : i < length codes) where
+module _ {d : ℕ} {codes arguments outCodes outArguments newCodes newArguments : List ℕ} {cores : List Core} {count i : ℕ}
+    (t : Taking d codes arguments outCodes outArguments newCodes newArguments cores count i) (h : i < length codes) where
   abbrev this : Command
   this = commandOf (getD codes i 0) (getD arguments i 0)
 
+  -- the record at the place of its core, what it means, and the records after it
+  abbrev place : ℕ
+  place = this .domain % maxCores
+
+  abbrev here : Core
+  here = getD cores place noCore
+
+  abbrev meaning : Meant
+  meaning = meantBy (ltb (this .domain) maxCores) here this
+
+  abbrev after : List Core
+  after = set cores place (recordBy meaning here)
+
   abbrev rest : List Command
-  rest = purge d (commandsOf (drop (i + 1) codes) (drop (i + 1) arguments))
+  rest = corePurge d after (commandsOf (drop (i + 1) codes) (drop (i + 1) arguments))
 
-  is-next : {k : Bool} → keeps d this ≡ k → purge d (commandsOf codes arguments) ≡ t .kept ++ cond k (this ∷ rest) rest
-  unfolding purge
-  is-next {k} e = t .is ∙ rw (ahead codes arguments h (t .same), e)
+  is-next : {k : Bool} → keepsBy d meaning ≡ k → corePurge d (freshCores maxCores) (commandsOf codes arguments) ≡ t .kept ++ cond k (this ∷ rest) rest
+  unfolding corePurge
+  is-next {k} e =
+      t .is ∙ rw (ahead codes arguments h (t .same), ← (place-meant cores (t .long) this), ← (place-records cores (t .long) this), e)
 
-  taken : keeps d this ≡ true
-      → Taking d codes arguments outCodes outArguments (set newCodes count (getD codes i 0)) (set newArguments count (getD arguments i 0)) (count + 1) (i + 1)
+  after-long : length after ≡ maxCores
+  after-long = length-set cores place (recordBy meaning here) ∙ t .long
+
+  taken : keepsBy d meaning ≡ true
+      → Taking d codes arguments outCodes outArguments (set newCodes count (getD codes i 0)) (set newArguments count (getD arguments i 0)) after (count + 1)
+      (i + 1)
   unfolding commandOf
   taken e = record {
+    long = after-long;
     same = t .same;
     codes-fit = t .codes-fit;
     arguments-fit = t .arguments-fit;
@@ -119,8 +144,9 @@ module _ {d : ℕ} {codes arguments outCodes outArguments newCodes newArguments 
       room : length (t .kept) < length codes
       room = let h′ : count < length codes = omega (arith, t .behind) in rw (t .counted) at h′
 
-  left : keeps d this ≡ false → Taking d codes arguments outCodes outArguments newCodes newArguments count (i + 1)
+  left : keepsBy d meaning ≡ false → Taking d codes arguments outCodes outArguments newCodes newArguments after count (i + 1)
   left e = record {
+    long = after-long;
     same = t .same;
     codes-fit = t .codes-fit;
     arguments-fit = t .arguments-fit;
@@ -133,23 +159,27 @@ module _ {d : ℕ} {codes arguments outCodes outArguments newCodes newArguments 
     arguments-are = t .arguments-are;
   }
 
-  pub turned : (r : ℕ) {codes′ arguments′ : List ℕ}
-      → takenOf (record { number = 0; count = r }) codes′ arguments′ ≡ takeOne d (getD codes i 0) (getD arguments i 0) count newCodes newArguments
-      → Taking d codes arguments outCodes outArguments codes′ arguments′ r (i + 1)
+  -- one turn, where the code has the place as p
+  pub turned : (r : ℕ) {codes′ arguments′ : List ℕ} {p : ℕ} {m : Meant} {core : Core} → p ≡ place
+      → m ≡ meantBy (ltb (this .domain) maxCores) (getD cores p noCore) this → core ≡ recordBy m (getD cores p noCore)
+      → takenOf (record { number = 0; count = r }) codes′ arguments′ ≡ takeOne (keepsBy d m) (getD codes i 0) (getD arguments i 0) count newCodes newArguments
+      → Taking d codes arguments outCodes outArguments codes′ arguments′ (set cores p core) r (i + 1)
   unfolding takeOne
-  turned r {codes′} {arguments′} e = cases (keeps d this)
-      (λ k. go (rw k at e) (taken k))
-      (λ k. go (rw k at e) (left k))
+  turned r {codes′} {arguments′} {p} {m} {core} stands means is e =
+      let m-is : m ≡ meaning = means ∙ ap (λ (q : ℕ). meantBy (ltb (this .domain) maxCores) (getD cores q noCore) this) stands in
+      rw (is, m-is, stands) (cases (keepsBy d meaning)
+      (λ k. go (rw (m-is, k) at e) (taken k))
+      (λ k. go (rw (m-is, k) at e) (left k)))
     where
       go : {x : Taken} → takenOf (record { number = 0; count = r }) codes′ arguments′ ≡ x
-          → Taking d codes arguments outCodes outArguments (x .codes) (x .arguments) (x .count) (i + 1)
-          → Taking d codes arguments outCodes outArguments codes′ arguments′ r (i + 1)
-      go {x} q w = subst (λ (y : Taken). Taking d codes arguments outCodes outArguments (y .codes) (y .arguments) (y .count) (i + 1)) (sym q) w
+          → Taking d codes arguments outCodes outArguments (x .codes) (x .arguments) after (x .count) (i + 1)
+          → Taking d codes arguments outCodes outArguments codes′ arguments′ after r (i + 1)
+      go {x} q w = subst (λ (y : Taken). Taking d codes arguments outCodes outArguments (y .codes) (y .arguments) after (y .count) (i + 1)) (sym q) w
 
-module _ {d : ℕ} {codes arguments outCodes outArguments newCodes newArguments : List ℕ} {count i : ℕ} where
-  pub end : Taking d codes arguments outCodes outArguments newCodes newArguments count i → length codes ≤ i
+module _ {d : ℕ} {codes arguments outCodes outArguments newCodes newArguments : List ℕ} {cores : List Core} {count i : ℕ} where
+  pub end : Taking d codes arguments outCodes outArguments newCodes newArguments cores count i → length codes ≤ i
       → takenOf (record { number = 0; count = count }) newCodes newArguments ≡ purgeOf d codes arguments outCodes outArguments
-  unfolding purgeOf purge commandsOf
+  unfolding purgeOf corePurge commandsOf
   end t h =
       rw (
         eq-eqb (length arguments) (length codes) (t .same),
@@ -158,7 +188,7 @@ module _ {d : ℕ} {codes arguments outCodes outArguments newCodes newArguments 
       )
       (rw (all, t .counted, t .codes-are, t .arguments-are))
     where
-      all : purge d (commandsOf codes arguments) ≡ t .kept
+      all : corePurge d (freshCores maxCores) (commandsOf codes arguments) ≡ t .kept
       all = t .is ∙ rw (drop-of-length-le codes h) (append-nil (t .kept))
 
 -- ---- refusals

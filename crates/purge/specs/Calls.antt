@@ -5,7 +5,8 @@ use Prim.Native.Nat.{ℕ}
 use lib.Dec.{eqb}
 use lib.ListN.{length, drop}
 use Rattle.command.specs.Command.{Command, codeOf, argumentOf, commandsOf}
-use Rattle.purge.specs.Purge.{purge}
+use Rattle.selectors.specs.Selectors.{maxCores, freshCores}
+use Rattle.purge.specs.Purge.{corePurge}
 use Rattle.purge.specs.declared.Purged.{Purged}
 
 -- The refusal's number or 0, how many steps are kept, and the two tables that take them: those steps, and after them what was there.
@@ -26,9 +27,9 @@ taking cs codes arguments = record {
   arguments = map argumentOf cs ++ drop (length cs) arguments;
 }
 
--- Unequal lengths are refused by 2, and nothing is taken then.
+-- The struck-out list where 32 fresh core records are lent. Unequal lengths are refused by 2, and nothing is taken then.
 unfoldable pub purgeOf : ℕ → List ℕ → List ℕ → List ℕ → List ℕ → Taken
 purgeOf d codes arguments outCodes outArguments =
     cond (eqb (length arguments) (length codes) && eqb (length outCodes) (length codes) && eqb (length outArguments) (length codes))
-    (taking (purge d (commandsOf codes arguments)) outCodes outArguments)
+    (taking (corePurge d (freshCores maxCores) (commandsOf codes arguments)) outCodes outArguments)
     (record { number = 2; count = 0; codes = outCodes; arguments = outArguments })

@@ -1,9 +1,15 @@
-// The struck-out list of a trace. A step is a code, its domain plus 256 times its kind, and an argument.
+// The struck-out list of a trace. A step is a code, its domain or core plus 256 times its kind, and an argument.
+use selectors::Core;
+use selectors::MAX_CORES;
+use selectors::Meaning;
 ghost use mathlib.Core.Path.{_≡_};
-ghost use Prim.Native.Nat.{_<_};
+ghost use Prim.Native.Nat.{_%_, _<_};
+ghost use lib.Dec.{ltb};
 ghost use lib.ListN.{length};
 ghost use Rattle.command.specs.Command.{commandOf};
-ghost use Rattle.purge.specs.Purge.{keeps};
+ghost use Rattle.selectors.specs.Selectors.{maxCores, meantBy};
+ghost use Rattle.selectors.specs.Calls.{meaningIs};
+ghost use Rattle.purge.specs.Purge.{keepsBy};
 ghost use Rattle.purge.specs.Calls.{takenOf, purgeOf};
 ghost use Rattle.purge.specs.Inside.{takeOne};
 
@@ -13,20 +19,47 @@ pub struct Purged {
     pub count: usize,
 }
 
-// Whether a step stays.
-fn stays(domain: usize, code: u16, argument: u64) -> bool
-    ensures { λ r. ⌜ r ≡ keeps domain (commandOf code argument) ⌝ }
+// What a step means where 32 records are lent, given that at its core's place.
+fn meaning_of(core: Core, code: u16, argument: u64) -> Meaning
+    ensures { λ r. ⌜ meaningIs r ≡ meantBy (ltb (code % 256) maxCores) core (commandOf code argument) ⌝ }
 {
     let step = command::command_of(code, argument);
-    if step.domain as usize == domain {
-        return true;
+    let named = step.domain as usize;
+    selectors::meant(named < MAX_CORES, core, named, step.kind, step.argument)
+}
+
+// The place of a step's core among 32 records. A step of a core that is not in the list reads another's record there, to no effect, and leaves it.
+fn place_of(code: u16) -> usize
+    ensures { λ r. ⌜ r ≡ code % 256 % maxCores ⌝ }
+    ensures { λ r. ⌜ r < maxCores ⌝ }
+{
+    ((code % 256) as usize) % MAX_CORES
+}
+
+// Whether a step stays, by what it means.
+fn stays(domain: usize, meaning: Meaning) -> bool
+    ensures { λ r. ⌜ r ≡ keepsBy domain (meaningIs meaning) ⌝ }
+{
+    match meaning {
+        Meaning::Plain {
+            domain: named,
+            kind,
+            argument,
+        } => {
+            if named == domain {
+                return true;
+            }
+            4 <= kind
+        }
+        Meaning::Select(core) => true,
+        Meaning::Refused(number) => true,
     }
-    4 <= step.kind
 }
 
 // A step taken into place `count`, if it stays; the number of steps taken then.
 fn take_one(
     domain: usize,
+    meaning: Meaning,
     code: u16,
     argument: u64,
     count: usize,
@@ -37,9 +70,9 @@ fn take_one(
     requires { ⌜ count < length (now arguments) ⌝ }
     ensures { λ r.
         ⌜ takenOf (record { number = 0; count = r }) (now (codes .exit)) (now (arguments .exit))
-        ≡ takeOne domain code argument count (now (codes .entry)) (now (arguments .entry)) ⌝ }
+        ≡ takeOne (keepsBy domain (meaningIs meaning)) code argument count (now (codes .entry)) (now (arguments .entry)) ⌝ }
 {
-    if stays(domain, code, argument) {
+    if stays(domain, meaning) {
         codes[count] = code;
         arguments[count] = argument;
         return count + 1;
@@ -47,7 +80,51 @@ fn take_one(
     count
 }
 
-// The struck-out list of a domain: the steps that stay, first to last, at the front of the two lent tables.
+// Takes the steps that stay, first to last, and answers how many they are.
+fn take_all(
+    domain: usize,
+    codes: &[u16],
+    arguments: &[u64],
+    kept_codes: &mut [u16],
+    kept_arguments: &mut [u64],
+) -> usize
+    requires { ⌜ length (now arguments) ≡ length (now codes) ⌝ }
+    requires { ⌜ length (now «kept_codes») ≡ length (now codes) ⌝ }
+    requires { ⌜ length (now «kept_arguments») ≡ length (now codes) ⌝ }
+    ensures { λ r.
+        ⌜ takenOf (record { number = 0; count = r }) (now («kept_codes» .exit)) (now («kept_arguments» .exit))
+        ≡ purgeOf domain (now (codes .entry)) (now (arguments .entry)) (now («kept_codes» .entry)) (now («kept_arguments» .entry)) ⌝ }
+{
+    let steps = codes.len();
+    let mut cores = [Core {
+        cs: 0,
+        ds: 0,
+        es: 0,
+    }; MAX_CORES];
+    let mut count = 0;
+    let mut i = 0;
+    while i < steps {
+        let code = codes[i];
+        let argument = arguments[i];
+        let place = place_of(code);
+        let core = cores[place];
+        let meaning = meaning_of(core, code, argument);
+        count = take_one(
+            domain,
+            meaning,
+            code,
+            argument,
+            count,
+            kept_codes,
+            kept_arguments,
+        );
+        cores[place] = selectors::record_after(core, meaning);
+        i += 1;
+    }
+    count
+}
+
+// The struck-out list of a domain, where 32 fresh core records are lent: the steps that stay, first to last, at the front of the two lent tables.
 pub fn purge_trace(
     domain: usize,
     codes: &[u16],
@@ -78,18 +155,6 @@ pub fn purge_trace(
             count: 0,
         };
     }
-    let mut count = 0;
-    let mut i = 0;
-    while i < steps {
-        count = take_one(
-            domain,
-            codes[i],
-            arguments[i],
-            count,
-            kept_codes,
-            kept_arguments,
-        );
-        i += 1;
-    }
+    let count = take_all(domain, codes, arguments, kept_codes, kept_arguments);
     Purged { number: 0, count }
 }
