@@ -1,2 +1,3 @@
 -- The listing, tried.
 pub mod WorkedCases
+pub mod Before

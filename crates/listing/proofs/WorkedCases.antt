@@ -9,7 +9,7 @@ use Rattle.geometry.specs.Geometry.{isPower, within}
 use Rattle.command.specs.Command.{commandOf}
 use Rattle.tracefile.specs.File.{value, field, lastSteps, badFile, fileRefusal}
 use Rattle.listing.specs.Listing.{decimalBy, line, told, answerLines, domainLine, domainPart, domainLines, runLines, listing}
-use Rattle.steps.proofs.Computing.{computing}
+use Rattle.cores.proofs.Computing.{coreComputing}
 
 -- "1 set, 4 ways, rule 0, 9 steps"
 abbrev fileA : List ℕ
@@ -32,8 +32,21 @@ listingA =
     ∷ 10 ∷ []
 
 pub case-a-listing : listing fileA ≡ listingA
-unfolding commandOf value field lastSteps badFile fileRefusal decimalBy line told answerLines domainLine domainPart domainLines runLines listing computing
+unfolding commandOf value field lastSteps badFile fileRefusal decimalBy line told answerLines domainLine domainPart domainLines runLines listing coreComputing
 case-a-listing = refl
+
+-- Document 02, job 5: core 31 of the 32 that are lent selects domain 1 for its stores, and loads for domain 0.
+abbrev fileOfACore : List ℕ
+fileOfACore =
+    1 ∷ 0 ∷ 4 ∷ 0 ∷ 3 ∷ 0 ∷ 0 ∷ 0 ∷ 0 ∷ 16 ∷ 31 ∷ 40 ∷ 31 ∷ 33 ∷ 3 ∷ 0 ∷ 3 ∷ 0 ∷ 0 ∷ 0 ∷ 0 ∷ 0 ∷ 0 ∷ 0 ∷ 1 ∷ 0 ∷ 0 ∷ 0 ∷ 0 ∷ 0 ∷ 64 ∷ 0 ∷ 0
+    ∷ 0 ∷ 0 ∷ 0 ∷ 0 ∷ 0 ∷ []
+
+pub core-listing : listing fileOfACore
+    ≡ 49 ∷ 32 ∷ 52 ∷ 32 ∷ 48 ∷ 32 ∷ 51 ∷ 10 ∷ 48 ∷ 32 ∷ 112 ∷ 111 ∷ 108 ∷ 105 ∷ 99 ∷ 121 ∷ 32 ∷ 48 ∷ 32 ∷ 48 ∷ 10 ∷ 49 ∷ 32 ∷ 115 ∷ 101 ∷ 108
+    ∷ 101 ∷ 99 ∷ 116 ∷ 32 ∷ 48 ∷ 32 ∷ 48 ∷ 32 ∷ 49 ∷ 10 ∷ 50 ∷ 32 ∷ 102 ∷ 105 ∷ 108 ∷ 108 ∷ 32 ∷ 48 ∷ 10 ∷ 100 ∷ 111 ∷ 109 ∷ 97 ∷ 105 ∷ 110
+    ∷ 32 ∷ 48 ∷ 32 ∷ 48 ∷ 32 ∷ 49 ∷ 32 ∷ 48 ∷ 32 ∷ 48 ∷ 32 ∷ 48 ∷ 10 ∷ []
+unfolding commandOf value field lastSteps badFile fileRefusal decimalBy line told answerLines domainLine domainPart domainLines runLines listing coreComputing
+core-listing = refl
 
 -- "A file refused by 10 or by 1 gives the one line `refused` and the number": a file of no bytes, one of 3 sets, and one of 257, which
 -- document 02's job 3 has refused by 10.

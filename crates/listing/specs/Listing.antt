@@ -11,8 +11,8 @@ use Rattle.domains.specs.declared.Counts.{Counts}
 use Rattle.domains.specs.declared.Domain.{Domain}
 use Rattle.domains.specs.declared.Domains.{Domains}
 use Rattle.command.specs.Command.{Command}
-use Rattle.steps.specs.Run.{answersOf, finally}
-use Rattle.steps.specs.Fresh.{fresh}
+use Rattle.selectors.specs.Selectors.{maxCores}
+use Rattle.cores.specs.Run.{coreAnswers, coreFinally, freshLent}
 use Rattle.tracefile.specs.File.{geometryOf, stepCount, stepsOf, fileRefusal}
 
 -- A number "in decimal", of at most k digits.
@@ -55,6 +55,8 @@ words =
     -- policy
     ∷ (112 ∷ 111 ∷ 108 ∷ 105 ∷ 99 ∷ 121 ∷ [])
     ∷ refused
+    -- select
+    ∷ (115 ∷ 101 ∷ 108 ∷ 101 ∷ 99 ∷ 116 ∷ [])
     ∷ []
 
 -- An answer's "word and fields".
@@ -89,10 +91,15 @@ headLine g n = line (decimal (g .sets) ∷ decimal (g .ways) ∷ decimal (g .rul
 abbrev pub refusedLine : ℕ → List ℕ
 refusedLine n = line (refused ∷ decimal n ∷ [])
 
+-- "The lister lends 32 records."
+abbrev pub listerCores : ℕ
+listerCores = maxCores
+
 -- The first line, then the steps of the run from a fresh cache, then the domains at its end.
 unfoldable pub runLines : Geometry → List Command → ℕ → List ℕ
 runLines g cs n =
-    headLine g n ++ (answerLines 0 (answersOf g cs (fresh g)) ++ domainLines (g .ways) (finally g cs (fresh g) .domains) 0 maxDomains)
+    let lent = freshLent g listerCores in
+    headLine g n ++ (answerLines 0 (coreAnswers g cs lent) ++ domainLines (g .ways) (coreFinally g cs lent .cache .domains) 0 maxDomains)
 
 -- "A file refused by 10 or by 1 gives the one line `refused` and the number."
 unfoldable pub listing : List ℕ → List ℕ

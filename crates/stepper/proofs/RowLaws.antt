@@ -53,6 +53,10 @@ rows-kept a b c d r = record {
 pub maps-room : {d now long : ℕ} → d < 16 → now ≡ long → 64 ≤ long → 4 * d + 4 ≤ now
 maps-room h e l = omega arith
 
+-- The selectors of core c, three bytes, among the 96 after them.
+pub records-room : {c now long : ℕ} → c < 32 → now ≡ long → 160 ≤ long → 64 + 3 * c + 3 ≤ now
+records-room h e l = omega arith
+
 -- Tag w of a row's tags.
 pub tag-room : (at : ℕ) {ways w now long : ℕ} → w < ways → now ≡ long → at + 8 * ways ≤ long → at + 8 * w + 8 ≤ now
 tag-room at h e l = omega arith

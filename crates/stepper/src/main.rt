@@ -1,10 +1,13 @@
 // Writes what the cache holds before the first step and after each step of the trace file on standard input, as numbers in bytes, the
-// lowest byte first. A block for each: the hit map and the fill map of the sixteen domains (2 bytes each), the set of the step's argument
-// (2), the number of rows that follow (2), how many ways the step's lookup visited (2; 0 where the step is refused or looks nothing up),
-// and the rows: set (2), valid map (2), dirty map (2), replacement word (8), tags (8 each). An access or a flush has the row of its set, a
-// policy change has all rows, and so has the block before the first step; other steps have none. A refused file gives nothing. A failed
-// read or write is told on standard error.
+// lowest byte first. A block for each: the hit map and the fill map of the sixteen domains (2 bytes each), the selectors CS, DS and ES of the
+// 32 cores (1 byte each), the set of the step's argument (2), the number of rows that follow (2), how many ways the step's lookup visited (2; 0
+// where the step is refused or looks nothing up), the domain by which the cache took the step (2; 65535 where it took none: a selector write, a
+// core that is not in the list, and before the first step), and the rows: set (2), valid map (2), dirty map (2), replacement word (8), tags (8
+// each). An access or a flush, by a domain or a core, has the row of its set, a policy change has all rows, and so has the block before the
+// first step; other steps have none. A refused file gives nothing. A failed read or write is told on standard error.
 use command::Answer;
+use cores::Reply;
+use cores::Stepped;
 use domains::Domains;
 use geometry::Geometry;
 use geometry::Place;
@@ -12,6 +15,9 @@ use libc::STDERR_FILENO;
 use libc::STDOUT_FILENO;
 use policy::Maps;
 use row::Lines;
+use selectors::Core;
+use selectors::MAX_CORES;
+use selectors::Meaning;
 use tracefile::MAX_SETS;
 ghost use mathlib.Core.Path.{_≡_};
 ghost use Prim.Native.Nat.{_+_, _*_, _≤_, _<_};
@@ -49,6 +55,28 @@ fn put_maps(domains: Domains, out: &mut [u8])
         let own = domains.records[d];
         put(shorts(own.hit as usize, own.fill, 0), 4, out, 4 * d);
         d += 1;
+    }
+}
+
+// The records of the cores.
+pub struct Records {
+    pub list: [Core; MAX_CORES],
+}
+
+// A core's selectors as one number of three bytes, CS lowest.
+fn selectors_of(core: Core) -> u64 {
+    (core.cs as u64) + 256 * (core.ds as u64) + 65536 * (core.es as u64)
+}
+
+// Puts the cores' selectors, 96 bytes, after the domains' maps.
+fn put_records(records: Records, out: &mut [u8])
+    requires { ⌜ 160 ≤ length (now out) ⌝ }
+{
+    let mut c = 0;
+    while c < MAX_CORES {
+        let core = records.list[c];
+        put(selectors_of(core), 3, out, 64 + 3 * c);
+        c += 1;
     }
 }
 
@@ -134,6 +162,14 @@ fn place_of(g: Geometry, address: u64) -> Place
     geometry::place_of(g, address)
 }
 
+// Whether a kind is that of an access or a flush, by a domain or a core.
+fn uses_line(kind: u8) -> bool {
+    match kind {
+        0..=3 | 32..=35 => true,
+        _ => false,
+    }
+}
+
 // What a block shows of the tables: the set of its step's argument, and from which set up to which it has rows.
 pub struct Span {
     pub set: usize,
@@ -159,7 +195,7 @@ fn span_of(file: &[u8], n: u32, i: u32, g: Geometry) -> Span
     let place = place_of(g, command.argument);
     let set = place.set;
     let kind = command.kind;
-    if kind < 4 {
+    if uses_line(kind) {
         return Span {
             set,
             from: set,
@@ -180,11 +216,39 @@ fn span_of(file: &[u8], n: u32, i: u32, g: Geometry) -> Span
     }
 }
 
+// What stands after a step: the domains and the records, the domain by which the cache took the step, how many ways its lookup visited, and whether
+// all blocks before it were written.
+pub struct Shown {
+    pub domains: Domains,
+    pub records: Records,
+    pub domain: u16,
+    pub visited: u16,
+    pub written: bool,
+}
+
+// Puts the head of a block, 168 bytes, at the front.
+fn put_head(shown: Shown, span: Span, out: &mut [u8])
+    requires { ⌜ span .from ≤ span .to ⌝ }
+    requires { ⌜ span .to ≤ maxFileSets ⌝ }
+    requires { ⌜ 168 ≤ length (now out) ⌝ }
+{
+    let domains = shown.domains;
+    let records = shown.records;
+    put_maps(domains, out);
+    put_records(records, out);
+    put(
+        shorts(span.set, (span.to - span.from) as u16, shown.visited),
+        6,
+        out,
+        160,
+    );
+    put(shown.domain as u64, 2, out, 166);
+}
+
 // Writes a block, and answers whether all of it was written.
 fn show(
     ways: usize,
-    domains: Domains,
-    visited: u16,
+    shown: Shown,
     span: Span,
     tags: &[u64],
     valid: &[u16],
@@ -196,21 +260,13 @@ fn show(
     requires { ⌜ span .from ≤ span .to ⌝ }
     requires { ⌜ span .to ≤ maxFileSets ⌝ }
     requires { ⌜ ways ≤ 16 ⌝ }
-    requires { ⌜ 70 + 142 * maxFileSets ≤ length (now out) ⌝ }
+    requires { ⌜ 168 + 142 * maxFileSets ≤ length (now out) ⌝ }
 {
     let from = span.from;
     let to = span.to;
-    put_maps(domains, out);
-    put(shorts(span.set, (to - from) as u16, visited), 6, out, 64);
-    let n = put_rows(ways, from, to, tags, valid, dirty, words, out, 70);
+    put_head(shown, span, out);
+    let n = put_rows(ways, from, to, tags, valid, dirty, words, out, 168);
     io::write_all(STDOUT_FILENO, &out[..n])
-}
-
-// The domains after a step, how many ways its lookup visited, and whether all blocks before it were written.
-pub struct Shown {
-    pub domains: Domains,
-    pub visited: u16,
-    pub written: bool,
 }
 
 // How many ways the lookup of a step visits, on the tables before it. Only an access or a flush has one.
@@ -253,11 +309,46 @@ fn visits(
     looked.visited
 }
 
+// The same of what a step means: only a step of the cache has a lookup.
+fn visits_by(g: Geometry, tags: &[u64], valid: &[u16], domains: Domains, meaning: Meaning) -> usize
+    requires { ⌜ Small (g .sets) (g .ways) ⌝ }
+    requires { ⌜ Rows (g .sets) (g .ways) (length (now tags)) (length (now valid)) (g .sets) (g .sets) ⌝ }
+{
+    match meaning {
+        Meaning::Plain {
+            domain,
+            kind,
+            argument,
+        } => visits(g, tags, valid, domains, domain, kind, argument),
+        _ => 0,
+    }
+}
+
+// The domain by which the cache takes a step, or 65535 for none.
+fn taken_by(meaning: Meaning) -> u16 {
+    match meaning {
+        Meaning::Plain {
+            domain,
+            kind,
+            argument,
+        } => (domain % 65536) as u16,
+        _ => 65535,
+    }
+}
+
 // What a lookup visits if its step is not refused: a refused step looks nothing up.
 fn unless_refused(answer: Answer, visited: usize) -> u16 {
     match answer {
         Answer::Refused(n) => 0,
         _ => (visited % 65536) as u16,
+    }
+}
+
+// The same of a step's reply.
+fn unless_turned_down(reply: Reply, visited: usize) -> u16 {
+    match reply {
+        Reply::Cache(answer) => unless_refused(answer, visited),
+        _ => 0,
     }
 }
 
@@ -267,6 +358,25 @@ fn both(first: bool, second: bool) -> bool {
         return second;
     }
     false
+}
+
+// What stands after a step.
+fn shown_after(
+    stepped: Stepped,
+    records: Records,
+    meaning: Meaning,
+    looked: usize,
+    written: bool,
+) -> Shown {
+    let reply = stepped.reply;
+    let domains = stepped.domains;
+    Shown {
+        domains,
+        records,
+        domain: taken_by(meaning),
+        visited: unless_turned_down(reply, looked),
+        written,
+    }
 }
 
 // Takes step i of a file of n steps.
@@ -285,29 +395,36 @@ fn take(
     requires { ⌜ Rows (g .sets) (g .ways) (length (now tags)) (length (now valid)) (length (now dirty)) (length (now words)) ⌝ }
 {
     let command = tracefile::command_at(file, n, i);
-    let domain = command.domain as usize;
-    let kind = command.kind;
-    let argument = command.argument;
+    let named = command.domain as usize;
+    let place = named % MAX_CORES;
     let domains = before.domains;
-    let looked = visits(g, tags, valid, domains, domain, kind, argument);
-    let stepped = cache::step(
+    let mut records = before.records;
+    let core = records.list[place];
+    let meaning = selectors::meant(
+        named < MAX_CORES,
+        core,
+        named,
+        command.kind,
+        command.argument,
+    );
+    let looked = visits_by(g, tags, valid, domains, meaning);
+    let turned = cores::turn(
         g,
         tags,
         valid,
         dirty,
         words,
         domains,
-        domain,
-        kind,
-        argument,
+        MAX_CORES,
+        core,
+        named,
+        command.kind,
+        command.argument,
     );
-    let answer = stepped.answer;
-    let after = stepped.domains;
-    Shown {
-        domains: after,
-        visited: unless_refused(answer, looked),
-        written: before.written,
-    }
+    let next = turned.core;
+    records.list[place] = next;
+    let stepped = turned.stepped;
+    shown_after(stepped, records, meaning, looked, before.written)
 }
 
 // Writes block i of a file of n steps, and takes step i, if there is one.
@@ -325,27 +442,12 @@ fn block(
 ) -> Shown
     requires { ⌜ Small (g .sets) (g .ways) ⌝ }
     requires { ⌜ Rows (g .sets) (g .ways) (length (now tags)) (length (now valid)) (length (now dirty)) (length (now words)) ⌝ }
-    requires { ⌜ 70 + 142 * maxFileSets ≤ length (now out) ⌝ }
+    requires { ⌜ 168 + 142 * maxFileSets ≤ length (now out) ⌝ }
 {
     let span = span_of(file, n, i, g);
-    let domains = before.domains;
-    let visited = before.visited;
-    let shown = show(
-        g.ways,
-        domains,
-        visited,
-        span,
-        tags,
-        valid,
-        dirty,
-        words,
-        out,
-    );
-    let after = Shown {
-        domains,
-        visited,
-        written: both(before.written, shown),
-    };
+    let shown = show(g.ways, before, span, tags, valid, dirty, words, out);
+    let mut after = before;
+    after.written = both(before.written, shown);
     if i == n {
         return after;
     }
@@ -364,11 +466,19 @@ fn run(
 ) -> bool
     requires { ⌜ Small (g .sets) (g .ways) ⌝ }
     requires { ⌜ Rows (g .sets) (g .ways) (length (now tags)) (length (now valid)) (length (now dirty)) (length (now words)) ⌝ }
-    requires { ⌜ 70 + 142 * maxFileSets ≤ length (now out) ⌝ }
+    requires { ⌜ 168 + 142 * maxFileSets ≤ length (now out) ⌝ }
 {
     fresh::fresh_tables(g, tags, valid, dirty, words);
     let mut shown = Shown {
         domains: fresh::fresh_domains(),
+        records: Records {
+            list: [Core {
+                cs: 0,
+                ds: 0,
+                es: 0,
+            }; MAX_CORES],
+        },
+        domain: 65535,
         visited: 0,
         written: true,
     };
@@ -392,7 +502,7 @@ fn lend(g: Geometry, cells: usize, file: &[u8]) -> bool
     let mut valid = [0u16; MAX_SETS];
     let mut dirty = [0u16; MAX_SETS];
     let mut words = [0u64; MAX_SETS];
-    let mut out = [0u8; 70 + 142 * MAX_SETS];
+    let mut out = [0u8; 168 + 142 * MAX_SETS];
     let sets = g.sets;
     run(
         g,

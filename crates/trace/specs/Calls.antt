@@ -4,11 +4,10 @@ use mathlib.Core.List.{List, _++_}
 use Prim.Native.Nat.{ℕ}
 use lib.Dec.{eqb}
 use lib.ListN.{length, drop}
-use Rattle.steps.specs.Run.{finally}
-use Rattle.steps.specs.Fresh.{fresh}
+use Rattle.cores.specs.Run.{coreFinally, freshLent}
 use Rattle.steps.specs.Tables.{Tables}
 use Rattle.tracefile.specs.File.{geometryOf, stepsOf, fileRefusal}
-use Rattle.listing.specs.Listing.{listing}
+use Rattle.listing.specs.Listing.{listerCores, listing}
 
 -- How many bytes are written, the output and the tables.
 pub record Listed : Type 0 where
@@ -35,7 +34,8 @@ ontoTables t old = record {
 -- The tables at the end of the run; a refused file leaves them.
 unfoldable pub lastTables : List ℕ → Tables → Tables
 lastTables file t =
-    cond (eqb (fileRefusal file) 0) (ontoTables (finally (geometryOf file) (stepsOf file) (fresh (geometryOf file)) .tables) t) t
+    let g = geometryOf file in
+    cond (eqb (fileRefusal file) 0) (ontoTables (coreFinally g (stepsOf file) (freshLent g listerCores) .cache .tables) t) t
 
 -- The listing at the front of the output.
 unfoldable pub listOf : List ℕ → List ℕ → Tables → Listed

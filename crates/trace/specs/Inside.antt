@@ -8,12 +8,14 @@ use lib.ListN.{length, take}
 use lib.Seq.{sets}
 use Rattle.geometry.specs.declared.Geometry.{Geometry}
 use Rattle.domains.specs.Domains.{maxDomains}
-use Rattle.steps.specs.Run.{answersOf, finally}
-use Rattle.steps.specs.Fresh.{freshDomains, fresh}
+use Rattle.selectors.specs.Selectors.{freshCores}
+use Rattle.cores.specs.Step.{Lent}
+use Rattle.cores.specs.Run.{coreAnswers, coreFinally, freshLent}
+use Rattle.cores.specs.Calls.{lentOf}
+use Rattle.steps.specs.Fresh.{freshDomains}
 use Rattle.steps.specs.Tables.{Tables}
-use Rattle.steps.specs.Step.{State}
 use Rattle.tracefile.specs.File.{maxFileSets, lastSteps}
-use Rattle.listing.specs.Listing.{decimal, answerLines, domainLines, runLines}
+use Rattle.listing.specs.Listing.{listerCores, decimal, answerLines, domainLines, runLines}
 use Rattle.trace.specs.declared.lines.Phrase.{Phrase}
 
 -- An output, and the place in it where the next bytes go.
@@ -42,15 +44,15 @@ pub record Says (p : Phrase) (fields : List (List ℕ)) : Type 0 where
 unfoldable pub endOf : ℕ → ℕ → ℕ
 endOf i n = cond (ltb (i + 1) n) 32 10
 
--- What the k steps of a file of n from step i on leave: the state, and their lines in the output.
+-- What the k steps of a file of n from step i on leave: what is lent, and their lines in the output.
 pub record RunTo : Type 0 where
-  pub state : State
+  pub lent : Lent
   pub text : Written
 
-unfoldable pub runTo : Geometry → List ℕ → ℕ → ℕ → ℕ → State → Written → RunTo
-runTo g file n i k s w = record {
-  state = finally g (lastSteps file n i k) s;
-  text = append (answerLines i (answersOf g (lastSteps file n i k) s)) w;
+unfoldable pub runTo : Geometry → List ℕ → ℕ → ℕ → ℕ → Lent → Written → RunTo
+runTo g file n i k x w = record {
+  lent = coreFinally g (lastSteps file n i k) x;
+  text = append (answerLines i (coreAnswers g (lastSteps file n i k) x)) w;
 }
 
 -- What the listing of a file of n steps leaves on tables of their lengths: the tables, and the lines in the output.
@@ -63,15 +65,15 @@ listedBy t w = record { tables = t; text = w }
 
 -- The domains' lines after a run.
 abbrev pub endOn : Geometry → RunTo → ListedBy
-endOn g r = listedBy (r .state .tables) (append (domainLines (g .ways) (r .state .domains) 0 maxDomains) (r .text))
+endOn g r = listedBy (r .lent .cache .tables) (append (domainLines (g .ways) (r .lent .cache .domains) 0 maxDomains) (r .text))
 
 -- What a run of all n steps on given tables leaves: the tables, and the lines of the steps and of the domains in the output.
 unfoldable pub ranBy : Geometry → List ℕ → ℕ → Tables → Written → ListedBy
-ranBy g file n t w = endOn g (runTo g file n 0 n (record { tables = t; domains = freshDomains }) w)
+ranBy g file n t w = endOn g (runTo g file n 0 n (lentOf t freshDomains (freshCores listerCores)) w)
 
 unfoldable pub listingBy : Geometry → List ℕ → ℕ → List ℕ → ListedBy
 listingBy g file n out =
-    listedBy (finally g (lastSteps file n 0 n) (fresh g) .tables) (append (runLines g (lastSteps file n 0 n) n) (writtenOf 0 out))
+    listedBy (coreFinally g (lastSteps file n 0 n) (freshLent g listerCores) .cache .tables) (append (runLines g (lastSteps file n 0 n) n) (writtenOf 0 out))
 
 -- Room for every geometry that a file may name, and for every listing.
 pub record Roomy (t : Tables) (out : List ℕ) : Type 0 where

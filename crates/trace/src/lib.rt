@@ -2,9 +2,12 @@
 mod lines;
 mod text;
 
-use cache::Stepped;
 use command::Answer;
+use cores::Reply;
+use cores::Stepped;
 use geometry::Geometry;
+use selectors::Core;
+use selectors::MAX_CORES;
 use tracefile::MAX_SETS;
 ghost use mathlib.Core.Path.{_≡_};
 ghost use mathlib.Core.Bool.{true};
@@ -40,27 +43,40 @@ fn run(
         (tablesOf (now (tags .entry)) (now (valid .entry)) (now (dirty .entry)) (now (words .entry))) (writtenOf at (now (out .entry))) ⌝ }
     ensures { λ r. ⌜ r ≤ at + (92 * steps + 2128) ⌝ }
 {
+    let mut cores = [Core {
+        cs: 0,
+        ds: 0,
+        es: 0,
+    }; MAX_CORES];
     let mut last = Stepped {
-        answer: Answer::Absent,
+        reply: Reply::Cache(Answer::Absent),
         domains: fresh::fresh_domains(),
     };
     let mut next = at;
     let mut i = 0;
     while i < steps {
         let command = tracefile::command_at(file, steps, i);
-        last = cache::step(
+        let named = command.domain as usize;
+        let place = named % MAX_CORES;
+        let core = cores[place];
+        let turned = cores::turn(
             g,
             tags,
             valid,
             dirty,
             words,
             last.domains,
-            command.domain as usize,
+            MAX_CORES,
+            core,
+            named,
             command.kind,
             command.argument,
         );
-        let answer = last.answer;
-        next = lines::answer(i, answer, out, next);
+        let after = turned.core;
+        cores[place] = after;
+        last = turned.stepped;
+        let reply = last.reply;
+        next = lines::answer(i, reply, out, next);
         i += 1;
     }
     lines::domains(g.ways, last.domains, out, next)

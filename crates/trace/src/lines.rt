@@ -1,6 +1,7 @@
 // The lines of a listing.
 use crate::text;
 use command::Answer;
+use cores::Reply;
 use domains::Counts;
 use domains::Domain;
 use domains::Domains;
@@ -11,6 +12,7 @@ ghost use mathlib.Core.List.{[], _∷_, map};
 ghost use Prim.Native.Nat.{_+_, _*_, _≤_, _<_};
 ghost use lib.ListN.{length};
 ghost use Rattle.command.specs.Answer.{answerOf};
+ghost use Rattle.cores.specs.Calls.{replyOf};
 ghost use Rattle.listing.specs.Listing.{decimal, line, told as toldAs, headLine, refusedLine, domainLine, domainPart, domainLines};
 ghost use Rattle.trace.specs.Inside.{writtenOf, append, Says};
 
@@ -67,6 +69,8 @@ const POLICY: [u8; 7] = *b"policy ";
 
 const REFUSED: [u8; 7] = *b"refused";
 
+const SELECT: [u8; 7] = *b"select ";
+
 // An answer's word and fields.
 fn said(answer: Answer) -> Phrase
     ensures { λ r. ⌜ Says r (toldAs (answerOf answer)) ⌝ }
@@ -85,13 +89,23 @@ fn said(answer: Answer) -> Phrase
     }
 }
 
+// The same of what a step answers where core records are lent.
+fn replied(reply: Reply) -> Phrase
+    ensures { λ r. ⌜ Says r (toldAs (replyOf reply)) ⌝ }
+{
+    match reply {
+        Reply::Cache(answer) => said(answer),
+        Reply::Select(core) => Phrase(SELECT, 6, core.cs as u64, core.ds as u64, core.es as u64, 3),
+    }
+}
+
 // The line of an answer.
-pub fn answer(place: u32, answer: Answer, out: &mut [u8], at: usize) -> usize
+pub fn answer(place: u32, reply: Reply, out: &mut [u8], at: usize) -> usize
     requires { ⌜ at + 92 ≤ length (now out) ⌝ }
-    ensures { λ r. ⌜ writtenOf r (now (out .exit)) ≡ append (line (decimal place ∷ toldAs (answerOf answer))) (writtenOf at (now (out .entry))) ⌝ }
+    ensures { λ r. ⌜ writtenOf r (now (out .exit)) ≡ append (line (decimal place ∷ toldAs (replyOf reply))) (writtenOf at (now (out .entry))) ⌝ }
     ensures { λ r. ⌜ r ≤ at + 92 ⌝ }
 {
-    let said = said(answer);
+    let said = replied(reply);
     let word = said.0;
     let length = said.1;
     let values = [said.2, said.3, said.4];

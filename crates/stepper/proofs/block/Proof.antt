@@ -18,7 +18,7 @@ span-of-requires c κs = search needs
 
 show-requires : tie.Need-show-requires
 show-requires c κs =
-    let spanned = c .before .before .before .before .before .before in
+    let spanned = c .before .before .before .before .before in
     let span = spanned .span-of .ensures in (
       rows-below (span .1) (entry spanned .pre .1 .0),
       (span .0, (le-trans (span .1) (entry spanned .pre .0 .few-sets), (entry spanned .pre .0 .few-ways, entry spanned .pre .1 .1))),
@@ -40,14 +40,14 @@ same-length-4 : tie.Need-same-length-4
 same-length-4 c = refl
 
 same-length-5 : tie.Need-same-length-5
-same-length-5 c = c .before .before .before .before .show .kept .1 .1 .1 .1 .1 .1 .1 .1 .0
+same-length-5 c = c .before .before .before .before .show .kept .1 .1 .1 .1 .1 .1 .1 .0
 
 returns : tie.Need-returns
 returns c = search needs
 
 take-requires : tie.Need-take-requires
 take-requires c κs =
-    let spanned = c .before .before .before .before .before .before .before .before .before .before .before .before .before .before .before in
+    let spanned = c .before .before .before .before .before .before .before .before .before .before .before .before .before .before in
     (entry spanned .pre .0, entry spanned .pre .1 .0)
 
 same-length-6 : tie.Need-same-length-6
@@ -63,7 +63,7 @@ same-length-9 : tie.Need-same-length-9
 same-length-9 c = c .before .before .before .before .before .before .before .before .take .kept .1 .1 .1 .1 .1 .1 .1 .0
 
 same-length-10 : tie.Need-same-length-10
-same-length-10 c = shown (c .before .before .before .before .before .before .before .before) .show .kept .1 .1 .1 .1 .1 .1 .1 .1 .0
+same-length-10 c = shown (c .before .before .before .before .before .before .before .before) .show .kept .1 .1 .1 .1 .1 .1 .1 .0
 
 returns-2 : tie.Need-returns-2
 returns-2 c = search needs
