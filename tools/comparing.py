@@ -13,9 +13,13 @@ from dataclasses import dataclass, replace
 from typing import Callable
 
 from families import make
-from traces import GEOMETRIES, step_of, steps_in
+from traces import GEOMETRIES, SELECT, THROUGH, step_of, steps_in
 
-KINDS = {0: "instruction fetch", 1: "load", 2: "store", 3: "flush", 16: "policy"}
+ACCESSES = {0: "instruction fetch", 1: "load", 2: "store", 3: "flush"}
+THROUGH_CORES = {THROUGH + kind: f"{name} through a core" for kind, name in ACCESSES.items()}
+KINDS = {**ACCESSES, 16: "policy", **THROUGH_CORES, SELECT: "selector write"}
+SELECTORS = ["CS", "DS", "ES"]
+USED = {THROUGH: 0, THROUGH + 1: 1, THROUGH + 2: 2, THROUGH + 3: 1}  # which of them a kind through a core uses
 FIRST_LINE = re.compile(rb"(?:refused (\d+)|(\d+) (\d+) (\d+) \d+)\n")
 STEP_LINE = re.compile(rb"^\d+ (?:refused (\d+)|([a-z]+)(.*))$", re.MULTILINE)
 PAUSE = 0.005  # seconds, a few times what a program needs to start and to read what is there
@@ -96,19 +100,22 @@ def given_files(paths):
 class Census:
     """How often each answer came up, by the reference's listings."""
 
-    WORDS = ["hit", "fill", "evict", "pass", "flush", "absent", "policy"]
-    DETAILS = {"hit": "in locked ways", "evict": "dirty", "flush": "dirty", "policy": "dropping lines"}
+    WORDS = ["hit", "fill", "evict", "pass", "flush", "absent", "policy", "select"]
+    DETAILS = {"hit": "in locked ways", "evict": "dirty", "flush": "dirty", "policy": "dropping lines",
+               "select": "with selectors that differ"}
     FIELDS = {"evict": re.compile(rb" \d+ \d+ 1"), "flush": re.compile(rb" \d+ 1"),
-              "policy": re.compile(rb" [1-9]\d* \d+")}  # with which an answer has its detail
-    STEP_NUMBERS = {3: "domain 16 or more", 4: "unknown kind", 5: "policy argument", 6: "empty hit map",
-                    8: "shared way", 9: "shared node"}
+              "policy": re.compile(rb" [1-9]\d* \d+"),
+              "select": re.compile(rb" (\d+)(?! \1 \1$).*")}  # with which an answer has its detail
+    STEP_NUMBERS = {3: "domain or selector 16 or more", 4: "unknown kind", 5: "argument of a policy or selector write",
+                    6: "empty hit map", 8: "shared way", 9: "shared node", 11: "core not in the list"}
     FILE_NUMBERS = {1: "geometry", 10: "trace file"}
     GEOMETRIES = GEOMETRIES
-    NEVER = "refused 2, a table's length, or 7, a full count"
+    NEVER = "refused 2, a table's length, 7, a full count, another list than 32 cores, or a stored selector above 15"
 
     def __init__(self):
         self.answers = collections.Counter()
         self.details = collections.Counter()
+        self.through = collections.Counter()
         self.most_dropped = 0
         self.refused_steps = collections.Counter()
         self.refused_files = collections.Counter()
@@ -125,7 +132,7 @@ class Census:
         self.geometries[int(first[2]), int(first[3]), int(first[4])] += 1
         self.domain_lines += listing.count(b"\ndomain ")
         answers = STEP_LINE.findall(listing)
-        self.details["hit"] += locked_hits(data, answers)
+        self.take_domains(data, answers)
         for number, word, fields in answers:
             if number:
                 self.refused_steps[int(number)] += 1
@@ -137,6 +144,18 @@ class Census:
             if word == "policy":
                 self.most_dropped = max(self.most_dropped, int(fields.split()[0]))
 
+    def take_domains(self, data, answers):
+        """What is to be seen only with the domain of each step: hits in ways outside its fill map, and the steps that
+        came to it through a selector."""
+        fill_maps = collections.Counter()
+        for domain, used, argument, word, fields in accepted_steps(data, answers):
+            if word == b"policy":
+                fill_maps[domain] = argument >> 16
+            elif word == b"hit":
+                self.details["hit"] += not fill_maps[domain] >> int(fields) & 1
+            if used is not None:
+                self.through[used] += 1
+
     def print(self):
         steps = sum(self.answers.values()) + sum(self.refused_steps.values())
         print(f"census, by the reference's listings: {steps:,} steps in {sum(self.geometries.values()):,} traces")
@@ -144,6 +163,9 @@ class Census:
             detail = f"  of them {self.details[word]:,} {self.DETAILS[word]}" if word in self.DETAILS else ""
             detail += f", at most {self.most_dropped:,}" if word == "policy" else ""
             print_count(word, self.answers[word], detail)
+        if "select" in self.WORDS:
+            uses = ", ".join(f"{self.through[name]:,} by {name}" for name in SELECTORS)
+            print_count("by cores", self.through.total(), f"  of these answers, through selectors: {uses}")
         for number, about in self.STEP_NUMBERS.items():
             print_count(f"refused {number}", self.refused_steps[number], f"  {about}")
         for number, about in self.FILE_NUMBERS.items():
@@ -155,17 +177,21 @@ class Census:
         print(f"  (no file can bring about {self.NEVER})")
 
 
-def locked_hits(data, answers):
-    """How many of the answers to a file are hits in ways outside the fill map of their domain."""
-    fill_maps, locked = collections.Counter(), 0
+def accepted_steps(data, answers):
+    """Of each step of a file that was not refused: the domain that the cache took it for, None of a selector write; the
+    selector that named the domain, None where the step itself did; its argument; its answer's word and fields."""
+    selectors = collections.defaultdict(lambda: (0, 0, 0))
     for place, (_, word, fields) in enumerate(answers[:steps_in(data) or 0]):
-        if word == b"policy":
-            domain, _, argument = step_of(data, place)
-            fill_maps[domain] = argument >> 16
-        elif word == b"hit":
-            domain, _, _ = step_of(data, place)
-            locked += not fill_maps[domain] >> int(fields) & 1
-    return locked
+        if not word:
+            continue
+        named, kind, argument = step_of(data, place)
+        if word == b"select":
+            selectors[named] = tuple(map(int, fields.split()))
+            yield None, None, argument, word, fields
+        elif kind in USED:
+            yield selectors[named][USED[kind]], SELECTORS[USED[kind]], argument, word, fields
+        else:
+            yield named, None, argument, word, fields
 
 
 def print_count(name, number, rest=""):
@@ -207,8 +233,9 @@ def about_steps(output, first):
         place = line - first
         if not 0 <= place < n:
             return f"line {line} of the {output} of {trace}"
-        domain, kind, argument = step_of(data, place)
-        return f"step {place} of {trace}: domain {domain}, kind {kind} ({KINDS.get(kind, 'unknown')}), {argument:#x}"
+        named, kind, argument = step_of(data, place)
+        who = f"{'core' if kind in USED or kind == SELECT else 'domain'} {named}"
+        return f"step {place} of {trace}: {who}, kind {kind} ({KINDS.get(kind, 'unknown')}), {argument:#x}"
     return describe
 
 
@@ -224,17 +251,24 @@ def as_it_is(_data, output):
     return output
 
 
+def nothing_more(_data):
+    """The words that both programs are given about a file, if there are none."""
+    return ()
+
+
 @dataclass(frozen=True)
 class Subject:
     """What is compared: the words that ask for it, of the reference and of tools/compare; the census of what came up in
-    it; a function that says of a file what a line, from 0, of the output is about; and one that makes what the proved
-    program wrote about a file into what is set beside the reference's output."""
+    it; a function that says of a file what a line, from 0, of the output is about; one that makes what the proved
+    program wrote about a file into what is set beside the reference's output; and one that gives the words about a
+    file that both programs are given, the reference after its own."""
 
     asked_of_reference: tuple
     asked_of_compare: str
     census: type
     describe: Callable[[bytes, int], str]
     proved_text: Callable[[bytes, bytes], bytes] = as_it_is
+    asked_of_both: Callable[[bytes], tuple] = nothing_more
 
 
 LISTINGS = Subject((), "", Census, about_steps("listing", 1))
@@ -306,8 +340,9 @@ class Comparison:
 
     def compare(self, file):
         given = file.data, self.options.timeout, file.pauses
-        reference = run(self.reference, *given, self.subject.asked_of_reference)
-        proved = run(self.proved, *given)
+        words = self.subject.asked_of_both(file.data)
+        reference = run(self.reference, *given, (*self.subject.asked_of_reference, *words))
+        proved = run(self.proved, *given, words)
         proved = replace(proved, listing=self.subject.proved_text(file.data, proved.listing))
         self.tried += 1
         self.census.take(file.data, reference.listing)

@@ -13,7 +13,7 @@ import tempfile
 
 from comparing import Outcome, Problem, agreed, describe_ending, run, short_path
 from timing import answers
-from traces import LOAD, MOST_STEPS, STORE, halved, header, submap
+from traces import LOAD, MOST_STEPS, STORE, THROUGH, halved, header, submap
 
 SETS, WAYS = 256, 16
 HALF = WAYS // 2
@@ -86,6 +86,18 @@ def policies(trace):
             trace.set_policy(1, hit_map, submap(rng, hit_map) or hit_map)
 
 
+def hits_through_cores(trace):
+    """Does what `hits` does, but for its last step, through cores: core 0, whose fresh selectors name domain 0, and
+    core 1, which gets domain 1 at the start. Loads go by DS, and stores by ES."""
+    begun = len(trace.steps)
+    hits(trace)
+    plain = trace.steps[begun:-1]
+    del trace.steps[begun:]
+    trace.select(1, (1, 1, 1))
+    for domain, kind, argument in plain:
+        trace.add(domain, THROUGH + kind, argument)
+
+
 SORTS = [
     ("hits", "nearly all steps hit, in all ways of 16 sets", hits),
     ("whole hits", "the same, of one domain that has all ways", whole_hits),
@@ -94,13 +106,20 @@ SORTS = [
 ]
 
 
+def made(seed, name, rule, add_steps):
+    """A trace of the sort with this name. Under all rules it has the same steps."""
+    trace = halved(random.Random(f"{seed} {name}"), (SETS, WAYS, rule))
+    add_steps(trace)
+    return trace
+
+
 def traces(seed):
-    """Each trace, with its name and what its steps are. Under all rules a sort of trace has the same steps."""
+    """Each trace, with its name and what its steps are."""
     for name, about, add_steps in SORTS:
         for rule, rule_name in RULES:
-            trace = halved(random.Random(f"{seed} {name}"), (SETS, WAYS, rule))
-            add_steps(trace)
-            yield f"{name}, {rule_name}", about, trace
+            yield f"{name}, {rule_name}", about, made(seed, name, rule, add_steps)
+    about = "the steps of the first trace, each through a core"
+    yield "hits through a core", about, made(seed, "hits", 0, hits_through_cores)
 
 
 # Counting.

@@ -8,6 +8,7 @@ import random
 from dataclasses import dataclass
 from typing import Callable
 
+from cores import add_edge, add_turn, begin
 from locked import add_round
 from traces import (FETCH, FLUSH, GEOMETRIES, HEADER, LARGEST_FILE, LOAD, MOST_STEPS, POLICY, RULES, SETS, STORE, WAYS,
                     Mix, Trace, grow, header, whole_file)
@@ -62,6 +63,28 @@ def with_locks(sets=SETS):
             add_round(trace)
         return trace.file()
     return maker
+
+
+def with_cores(sets=SETS):
+    """The maker of traces with cores that are switched, at one of these numbers of sets."""
+    def maker(rng, _index):
+        trace = Trace(rng, (rng.choice(sets), rng.choices(WAYS, [1, 4, 5, 5])[0], rng.choice(RULES)))
+        team = begin(trace)
+        for _ in range(rng.randint(2, 12)):
+            add_turn(trace, team)
+        return trace.file()
+    return maker
+
+
+def selectors(rng, _index):
+    """Steps at the limits of cores and selectors among those that show what they left."""
+    trace = Trace(rng, some_geometry(rng))
+    team = begin(trace)
+    for _ in range(rng.randint(2, 8)):
+        add_turn(trace, team)
+        for _ in range(rng.randint(5, 15)):
+            add_edge(trace, team)
+    return trace.file()
 
 
 def each_geometry(rng, index):
@@ -210,6 +233,9 @@ FAMILIES = [
     Family("locks", "fill maps change under the same hit map: locked ways, `pass`", 10,
            of_mix(Mix(policy=10, relock=30, shut=4, crowd=(0.5, 2), used_sets=2, rules=(0, 0, 1, 2)))),
     Family("locked", "hits in locked ways, and evictions beside them, mostly under Tree-PLRU", 14, with_locks()),
+    Family("cores", "cores are switched between domains; accesses and flushes through their selectors", 14,
+           with_cores()),
+    Family("selectors", "cores, selectors and bytes of selector writes at their limits (11, 3, 5)", 7, selectors),
     Family("tree", "Tree-PLRU with maps that cross subtrees and share nodes (9)", 8,
            of_mix(Mix(policy=15, share=15, relock=20, crowd=(0.5, 2), used_sets=2, rules=(0,)))),
     Family("nru", "NRU with small maps and many evictions", 4,

@@ -2,15 +2,16 @@
 
 A file of calls has the form of a trace file, and may name any number of sets. target/bin/slices and, with the word
 `slices`, the reference write about it what a listing has: the first line, a line for each step, and the lines of the
-domains. Outside the limits each step is refused by 1. Only a file without the form is refused as a whole, by 10.
-FAMILIES has the families of files, as families.py has those of traces.
+domains. Outside the limits each step is refused by 1. No list of cores is lent: kinds 32 to 35 and 40 are unknown. Only
+a file without the form is refused as a whole, by 10. FAMILIES has the families of files, as families.py has those of
+traces.
 """
 
 import comparing
 import families
 from comparing import Subject, about_steps
 from families import (Family, bad_geometry, both, each_length, extended, flipped_body, flipped_header, near_length,
-                      noise, of_mix, oversize, some_geometry, too_many_steps, truncated, wild, with_locks,
+                      noise, of_mix, oversize, some_geometry, too_many_steps, truncated, wild, with_cores, with_locks,
                       wrong_number)
 from traces import (GEOMETRIES, LOAD, MOST_STEPS, RULES, STORE, WAYS, Mix, Trace, change_grant, change_move,
                     change_relock, change_remove, grow, whole_file)
@@ -121,6 +122,8 @@ FAMILIES = [
     Family("locks", "fill maps change under the same hit map: locked ways, `pass`", 4,
            larger(Mix(policy=10, relock=30, shut=4, crowd=(0.5, 2), rules=(0, 0, 1, 2)))),
     Family("locked", "hits in locked ways, and evictions beside them, mostly under Tree-PLRU", 8, with_locks(LARGER)),
+    Family("cores", "kinds that name a core, which are unknown here (4, and 3 for a number of 16 or more)", 2,
+           with_cores(LARGER)),
     Family("moves", "ways move between domains; domains are removed and put back", 5,
            larger(Mix(policy=30, move=12, remove=8, crowd=(0.3, 1)))),
     Family("addresses", "lines from the whole 64 bits, tags of many digits", 3, larger(Mix(wide=0.9))),
@@ -144,10 +147,13 @@ FAMILIES = [
 class Census(comparing.Census):
     """How often each answer came up, by the reference's output."""
 
-    STEP_NUMBERS = {1: "geometry", **comparing.Census.STEP_NUMBERS}
+    WORDS = [word for word in comparing.Census.WORDS if word != "select"]
+    STEP_NUMBERS = {1: "geometry", 3: "domain 16 or more", 4: "unknown kind", 5: "policy argument", 6: "empty hit map",
+                    8: "shared way", 9: "shared node"}
     FILE_NUMBERS = {10: "trace file"}
     GEOMETRIES = CALLED
-    NEVER = f"{comparing.Census.NEVER}, or a change that drops more than {MOST_STEPS - 2:,} lines"
+    NEVER = ("refused 2, a table's length, or 7, a full count, or a change that drops more than "
+             f"{MOST_STEPS - 2:,} lines")
 
 
 SLICES = Subject(("slices",), " --slices", Census, about_steps("output", 1))

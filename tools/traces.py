@@ -16,6 +16,8 @@ RULES = [0, 1, 2]  # Tree-PLRU, NRU, LRU
 GEOMETRIES = [(sets, ways, rule) for sets in SETS for ways in WAYS for rule in RULES]
 DOMAINS = 16
 FETCH, LOAD, STORE, FLUSH, POLICY = 0, 1, 2, 3, 16
+THROUGH, SELECT = 32, 40  # by document 02, kinds 0 to 3 through a core are 32 more, and 40 writes a core's selectors
+CORES = 32  # core records that the lister lends
 MOST_STEPS = 4096
 HEADER = 8
 LARGEST_FILE = HEADER + 10 * MOST_STEPS
@@ -44,7 +46,7 @@ def steps_in(data):
 
 
 def step_of(data, place):
-    """The domain, kind and argument of one step of a file that stands."""
+    """The domain, or core, the kind and the argument of one step of a file that stands."""
     n = struct.unpack_from("<I", data, 4)[0]
     domain, kind = struct.unpack_from("<BB", data, HEADER + 2 * place)
     (argument,) = struct.unpack_from("<Q", data, HEADER + 2 * n + 8 * place)
@@ -99,8 +101,9 @@ def under_free_nodes(ways, hit_map, fill_map):
 # A trace in the making.
 
 class Trace:
-    """A trace in the making. `policies` is a guess at what the steps so far have left, by a small model of numbers 5,
-    8 and 9. It only steers what is made next, so that most policy changes are acceptable; nothing is compared with it.
+    """A trace in the making. `policies` and `cores`, the selectors CS, DS and ES of each core, are a guess at what the
+    steps so far have left, by a small model of what is refused. It only steers what is made next, so that most policy
+    changes are acceptable, and most steps through cores are of domains that have ways; nothing is compared with it.
     """
 
     def __init__(self, rng, geometry):
@@ -109,6 +112,7 @@ class Trace:
         self.sets, self.ways, self.rule = geometry
         self.steps = []
         self.policies = {}
+        self.cores = [(0, 0, 0)] * CORES
         self.cast = rng.sample(range(DOMAINS), rng.choice([1, 2, 3, 4, 4, 6, 8, 16]))
 
     def add(self, domain, kind, argument):
@@ -131,6 +135,18 @@ class Trace:
             self.policies[domain] = (hit_map, fill_map)
             if not hit_map:
                 del self.policies[domain]
+
+    def select(self, core, selectors, high=0):
+        """A selector write."""
+        cs, ds, es = selectors
+        self.add(core, SELECT, cs | ds << 8 | es << 16 | high << 24)
+        if core < CORES and max(selectors) < DOMAINS and not high:
+            self.cores[core] = (cs, ds, es)
+
+    def selected(self, core, kind):
+        """The domain of a fetch, load, store or flush through a core."""
+        cs, ds, es = self.cores[core]
+        return {FETCH: cs, LOAD: ds, STORE: es, FLUSH: ds}[kind]
 
     def unowned(self, domain):
         """The ways that no domain but this one has."""
@@ -317,9 +333,9 @@ def addresses(trace, mix):
 
 
 def add_stray(trace, lines):
-    """An unknown kind, a domain of 16 or more, or both."""
+    """An unknown kind, a domain of 16 or more, or both; seldom a kind that names a core."""
     rng = trace.rng
-    unknown = rng.choice([4, 5, 8, 15, 17, 18, 32, 40, 128, 255, rng.randint(4, 15), rng.randint(17, 255)])
+    unknown = rng.choice([4, 5, 8, 15, 17, 18, 31, 36, 128, 255, rng.randint(4, 15), rng.randint(17, 255)])
     known = rng.choice([FETCH, LOAD, STORE, FLUSH, POLICY])
     too_high = rng.choice([16, 17, 31, 128, 255, rng.randint(16, 255)])
     domain, kind = rng.choice([(trace.anyone(), unknown), (too_high, known), (too_high, unknown)])

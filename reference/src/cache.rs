@@ -38,6 +38,11 @@ impl Cache {
         &self.domains
     }
 
+    #[cfg(test)]
+    pub fn domains_mut(&mut self) -> &mut Domains {
+        &mut self.domains
+    }
+
     /// Does one step, or turns it down: "The answer is the number alone and nothing else moves."
     pub fn step(&mut self, step: &Step) -> Answer {
         self.step_and_visits(step).0

@@ -2,7 +2,8 @@
 
 use crate::geometry::Geometry;
 use crate::maps::Map;
-use crate::{listing, nru, rules, slices, tree, visits};
+use crate::trace::Form;
+use crate::{cores, listing, nru, purge, rules, slices, tree, visits};
 
 /// (domain, kind, argument)
 type Code = (u8, u8, u64);
@@ -76,11 +77,12 @@ fn case_a_the_listing() {
 }
 
 /// Four misses in maps of two ways; then a flush of the map's second way, a refused step and a hit in its first way.
+/// Beside the ways visited is the domain.
 #[test]
 fn case_a_the_ways_visited() {
     let text = visits::of_file(&file(1, 4, 0, &steps_of_case_a()));
     let numbers: Vec<&str> = text.lines().collect();
-    assert_eq!(numbers, ["0", "0", "2", "2", "2", "2", "2", "0", "1"]);
+    assert_eq!(numbers, ["0 0", "0 1", "2 0", "2 0", "2 1", "2 0", "2 0", "0 2", "1 0"]);
 }
 
 #[test]
@@ -324,11 +326,201 @@ fn the_ways_visited_by_a_file() {
     let load = |address| (15, LOAD, address);
     let steps =
         [policy(15, 0x2e00), load(0), load(4096), load(0), load(4096), (15, FLUSH, 4096), (15, 4, 0), (0, LOAD, 0)];
-    assert_eq!(visits::of_file(&file(64, 16, 2, &steps)), "0\n4\n4\n1\n2\n2\n0\n0\n");
+    assert_eq!(visits::of_file(&file(64, 16, 2, &steps)), "0 15\n4 15\n4 15\n1 15\n2 15\n2 15\n0 15\n0 0\n");
     assert_eq!(visits::of_file(&file(64, 16, 2, &[])), "");
     assert_eq!(visits::of_file(&file(64, 16, 3, &steps)), "refused\n");
     assert_eq!(visits::of_file(&file(512, 16, 2, &steps)), "refused\n");
     assert_eq!(visits::of_file(&[]), "refused\n");
+}
+
+/// Cores 5, 6, 31 and 32 beside domains 0 and 1, which have ways 0 and 1, and 2 and 3, of four: core 5 begins with
+/// domain 0 and is switched twice, so that its selectors differ. Core 31 then has domain 15, which has no ways.
+fn steps_of_cores() -> [Code; 26] {
+    [
+        policy(0, 3),
+        policy(1, 12),
+        (5, 33, 0),
+        (5, 40, 0x00_01_01),
+        (5, 33, 0),
+        (5, 34, 64),
+        (5, 32, 0),
+        (5, 35, 64),
+        (5, 40, 0x01_00_00),
+        (5, 35, 64),
+        (5, 34, 0),
+        (5, 32, 0),
+        (6, 33, 128),
+        (0, LOAD, 128),
+        (6, 33, 192),
+        (31, 33, 0),
+        (32, 33, 0),
+        (32, 40, 0),
+        (31, 40, 0x0f_0f_0f),
+        (31, 33, 0),
+        (31, 40, 0x10),
+        (31, 40, 0x0100_0000),
+        (31, 40, 0x0100_0010),
+        (31, 35, 0),
+        (20, 36, 0),
+        (5, 36, 0),
+    ]
+}
+
+const CORES: &str = "\
+1 4 0 26
+0 policy 0 0
+1 policy 0 0
+2 fill 0
+3 select 1 1 0
+4 fill 2
+5 fill 1
+6 hit 2
+7 absent
+8 select 0 0 1
+9 flush 1 1
+10 hit 2
+11 hit 0
+12 fill 1
+13 hit 1
+14 evict 0 0 0
+15 evict 1 2 0
+16 refused 11
+17 refused 11
+18 select 15 15 15
+19 refused 6
+20 refused 3
+21 refused 5
+22 refused 3
+23 refused 6
+24 refused 3
+25 refused 4
+domain 0 2 5 2 1 1
+domain 1 2 1 0 0 0
+";
+
+#[test]
+fn cores_that_are_switched() {
+    assert_eq!(list(1, 4, 0, &steps_of_cores()), CORES);
+}
+
+/// By a call without a list, kinds 32 to 35 and 40 are unknown: 3 for a domain of 16 or more, else 4.
+#[test]
+fn without_a_list_of_cores() {
+    let due = |&(domain, kind, _): &Code| match (kind, domain) {
+        (POLICY, _) => "policy 0 0",
+        (LOAD, _) => "fill 0",
+        (_, 16..) => "refused 3",
+        _ => "refused 4",
+    };
+    let lines: Vec<String> =
+        (0..).zip(&steps_of_cores()).map(|(place, step)| format!("{place} {}\n", due(step))).collect();
+    let counts = "domain 0 0 1 0 0 0\ndomain 1 0 0 0 0 0\n";
+    assert_eq!(call(1, 4, 0, &steps_of_cores()), format!("1 4 0 26\n{}{counts}", lines.concat()));
+}
+
+/// The ways visited and the domain, 65535 for a selector write and for core 32.
+#[test]
+fn the_ways_visited_through_cores() {
+    let text = visits::of_file(&file(1, 4, 0, &steps_of_cores()));
+    let lines: Vec<&str> = text.lines().collect();
+    assert_eq!(lines[..9], ["0 0", "0 1", "2 0", "0 65535", "2 1", "2 0", "1 1", "2 1", "0 65535"]);
+    assert_eq!(lines[9..16], ["2 0", "1 1", "1 0", "2 0", "2 0", "2 0", "2 0"]);
+    assert_eq!(lines[16..20], ["0 65535", "0 65535", "0 65535", "0 15"]);
+    assert_eq!(lines[20..], ["0 65535", "0 65535", "0 65535", "0 15", "0 20", "0 5"]);
+}
+
+/// The places of the steps that each domain's struck-out list does not have. The geometry does not matter, unless 10
+/// refuses the file.
+#[test]
+fn the_struck_out_lists() {
+    let steps = steps_of_cores();
+    for domain in 0..16 {
+        let struck: &[usize] = match domain {
+            0 => &[4, 6, 7, 10, 19, 23],
+            1 => &[2, 5, 9, 11, 12, 13, 14, 15, 19, 23],
+            15 => &[2, 4, 5, 6, 7, 9, 10, 11, 12, 13, 14, 15],
+            _ => &[2, 4, 5, 6, 7, 9, 10, 11, 12, 13, 14, 15, 19, 23],
+        };
+        let kept = steps.iter().enumerate().filter(|(place, _)| !struck.contains(place));
+        let due: String = kept.map(|(_, (named, kind, argument))| format!("{named} {kind} {argument}\n")).collect();
+        assert_eq!(purge::of_file(domain, &file(1, 4, 0, &steps)), due, "domain {domain}");
+        assert_eq!(purge::of_file(domain, &file(3, 5, 7, &steps)), due, "domain {domain}");
+        for refused in [file(257, 4, 0, &steps), file(1, 4, 0, &[(0, LOAD, 0); 4097]), vec![0; 7]] {
+            assert_eq!(purge::of_file(domain, &refused), "");
+        }
+    }
+}
+
+/// The struck-out list of a domain, read from its text.
+fn struck_out(domain: u8, steps: &[Code]) -> Vec<Code> {
+    let text = purge::of_file(domain, &file(1, 4, 0, steps));
+    let number = |word: &str| word.parse::<u64>().expect("a number");
+    let code = |numbers: Vec<u64>| (numbers[0] as u8, numbers[1] as u8, numbers[2]);
+    text.lines().map(|line| code(line.split(' ').map(number).collect())).collect()
+}
+
+/// Case A without the loads of domains 1 and 2: the answers to domain 0 are the same, and so is its line.
+#[test]
+fn case_a_the_struck_out_run() {
+    let text = "0 16 196611\n1 16 786444\n0 2 0\n0 1 64\n0 1 128\n0 3 64\n0 1 128\n";
+    assert_eq!(purge::of_file(0, &file(1, 4, 0, &steps_of_case_a())), text);
+    let due = "\
+1 4 0 7
+0 policy 0 0
+1 policy 0 0
+2 fill 0
+3 fill 1
+4 evict 0 0 1
+5 flush 1 0
+6 hit 0
+domain 0 1 3 1 1 1
+domain 1 0 0 0 0 0
+";
+    assert_eq!(list(1, 4, 0, &struck_out(0, &steps_of_case_a())), due);
+}
+
+/// The cores without what belongs to domains 0 and 15: the answers to domain 1, steps 4, 6, 7 and 10 before, are the
+/// same, and so is its line.
+#[test]
+fn the_struck_out_run_of_cores() {
+    let due = "\
+1 4 0 16
+0 policy 0 0
+1 policy 0 0
+2 select 1 1 0
+3 fill 2
+4 hit 2
+5 absent
+6 select 0 0 1
+7 hit 2
+8 refused 11
+9 refused 11
+10 select 15 15 15
+11 refused 3
+12 refused 5
+13 refused 3
+14 refused 3
+15 refused 4
+domain 0 0 0 0 0 0
+domain 1 2 1 0 0 0
+";
+    assert_eq!(list(1, 4, 0, &struck_out(1, &steps_of_cores())), due);
+}
+
+/// 1 comes before 11: with a geometry outside the limits each call is refused by 1, whatever list is lent.
+#[test]
+fn one_comes_before_eleven() {
+    let steps = [(0, LOAD, 0), (0, 33, 0), (32, 33, 0), (32, 40, u64::MAX), (16, 99, 0)];
+    for length in [0, 1, 32, 33] {
+        let mut lent = vec![cores::Core::default(); length];
+        let form = Form::read(&file(3, 4, 0, &steps)).expect("a file that has the form");
+        let text = listing::of_calls(&form, Some(&mut lent));
+        assert_eq!(text, "3 4 0 5\n0 refused 1\n1 refused 1\n2 refused 1\n3 refused 1\n4 refused 1\n");
+    }
+    let mut lent = vec![cores::Core::default(); 33];
+    let form = Form::read(&file(4, 4, 0, &steps)).expect("a file that has the form");
+    let text = listing::of_calls(&form, Some(&mut lent));
+    assert_eq!(text, "4 4 0 5\n0 refused 11\n1 refused 11\n2 refused 11\n3 refused 11\n4 refused 11\n");
 }
 
 /// n is a number of 32 bits: 10 × n in 32 bits would make 3 + 2^31 steps look like 3.

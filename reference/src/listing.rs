@@ -4,6 +4,7 @@
 use std::fmt::Write;
 
 use crate::cache::Cache;
+use crate::cores::{self, Core};
 use crate::domains::{Domains, DOMAINS};
 use crate::numbers::Refusal;
 use crate::steps::Answer;
@@ -12,10 +13,11 @@ use crate::trace::{Form, Trace};
 /// Writing to a text cannot fail.
 const WRITTEN: &str = "text takes every line";
 
-/// The whole listing of a trace file. "A file refused by 10 or by 1 gives the one line `refused` and the number."
+/// The whole listing of a trace file. "A file refused by 10 or by 1 gives the one line `refused` and the number." By
+/// document 02, "the lister lends 32 records".
 pub fn of_file(file: &[u8]) -> String {
     match Trace::read(file) {
-        Ok(trace) => of_calls(&trace.form),
+        Ok(trace) => of_calls(&trace.form, Some(&mut cores::fresh())),
         Err(refusal) => of_refused(refusal),
     }
 }
@@ -25,17 +27,19 @@ pub fn of_refused(refusal: Refusal) -> String {
     format!("refused {}\n", refusal.number())
 }
 
-/// The listing of the steps of a file, each of them a call. The first one gets a fresh cache; with a geometry outside
-/// the limits there is none, and number 1 turns all of them down. "A refused step does not end the run."
-pub fn of_calls(form: &Form) -> String {
+/// The listing of the steps of a file, each of them a call, which is lent the list of cores if there is one. The first
+/// one gets a fresh cache; with a geometry outside the limits there is none, and number 1 turns all of them down. "A
+/// refused step does not end the run."
+pub fn of_calls(form: &Form, mut lent: Option<&mut [Core]>) -> String {
     let Form { sets, ways, rule, steps } = form;
     let mut text = String::with_capacity(64 + 32 * steps.len());
     writeln!(text, "{sets} {ways} {rule} {}", steps.len()).expect(WRITTEN);
     let mut cache = form.geometry().map(Cache::fresh);
     for (place, step) in steps.iter().enumerate() {
-        let answer = match &mut cache {
-            Ok(cache) => cache.step(step),
-            Err(refusal) => Answer::Refused(*refusal),
+        let answer = match (&mut cache, &mut lent) {
+            (Err(refusal), _) => Answer::Refused(*refusal),
+            (Ok(cache), None) => cache.step(step),
+            (Ok(cache), Some(cores)) => cores::step(cache, cores, step),
         };
         step_line(&mut text, place, answer);
     }
@@ -46,7 +50,8 @@ pub fn of_calls(form: &Form) -> String {
 }
 
 /// "`hit` way; `fill` way; `evict` way, tag, dirty (0 or 1); `pass`; `flush` way, dirty; `absent`; `policy` dropped,
-/// dirty dropped; `refused` number."
+/// dirty dropped; `refused` number." By document 02, an accepted selector write "prints `select` and the three
+/// selectors".
 fn step_line(text: &mut String, place: usize, answer: Answer) {
     match answer {
         Answer::Hit { way } => writeln!(text, "{place} hit {way}"),
@@ -56,6 +61,7 @@ fn step_line(text: &mut String, place: usize, answer: Answer) {
         Answer::Flush { way, dirty } => writeln!(text, "{place} flush {way} {}", u8::from(dirty)),
         Answer::Absent => writeln!(text, "{place} absent"),
         Answer::Policy { dropped, dirty_dropped } => writeln!(text, "{place} policy {dropped} {dirty_dropped}"),
+        Answer::Select { cs, ds, es } => writeln!(text, "{place} select {cs} {ds} {es}"),
         Answer::Refused(refusal) => writeln!(text, "{place} refused {}", refusal.number()),
     }
     .expect(WRITTEN);

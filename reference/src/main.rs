@@ -2,13 +2,15 @@
 //!
 //! It reads a trace file from standard input and writes the listing that document 01, "Trace file and listing",
 //! defines; with the argument `rules` it writes what the replacement rules called alone give, with `visits` how many
-//! ways the lookup of each step visited, and with `slices` the listing of its steps as calls, which may have more sets
-//! than a trace file. It was written from document 01 and, for true LRU, the order of work in the lookup, larger slices
-//! and touches outside the fill map, document 02, without packages, so that `tools/compare` can set it beside the
-//! proved programs. The rules, [`tree`], [`nru`] and [`lru`], the lookup that counts its visits, `find` in [`cache`],
-//! and the limits of sets, in [`geometry`] and [`trace`], were written without a look at their proved code. [`rules`]
-//! and `HandOver` in [`replacement`] were not: the source of the crate replacement had been read, for its public calls.
-//! Nothing here is proved: where two programs differ, these documents decide which of them is wrong.
+//! ways the lookup of each step visited and for which domain, with `slices` the listing of its steps as calls, which
+//! may have more sets than a trace file, and with `purge` and a domain the domain's struck-out list. It was written
+//! from document 01 and, for true LRU, the order of work in the lookup, larger slices, touches outside the fill map and
+//! core selectors, document 02, without packages, so that `tools/compare` can set it beside the proved programs. The
+//! rules, [`tree`], [`nru`] and [`lru`], the lookup that counts its visits, `find` in [`cache`], the limits of sets, in
+//! [`geometry`] and [`trace`], the core selectors, [`cores`], and what is struck out, in [`purge`], were written
+//! without a look at their proved code. [`rules`] and `HandOver` in [`replacement`] were not: the source of the crate
+//! replacement had been read, for its public calls. Nothing here is proved: where two programs differ, these documents
+//! decide which of them is wrong.
 //!
 //! Each module is one part of document 01, or of document 02 where it says so, and quotes the sentence that it follows.
 //! A module uses only modules that stand before it in this list:
@@ -22,11 +24,13 @@
 //! 7. [`domains`]: policies and counts
 //! 8. [`refusals`]: when a step is turned down, by the geometry and the domains
 //! 9. [`cache`]: the tables, access, flush and policy change
-//! 10. [`trace`]: the trace file
-//! 11. [`listing`]: the text of a trace
-//! 12. [`rules`]: the text of the rules called alone; it does not use `listing`
-//! 13. [`visits`]: the text of the ways visited; it uses neither `listing` nor `rules`
-//! 14. [`slices`]: the text of calls, by `listing`; it uses neither `rules` nor `visits`
+//! 10. [`cores`]: core records; steps through cores, and selector writes
+//! 11. [`trace`]: the trace file
+//! 12. [`listing`]: the text of a trace
+//! 13. [`rules`]: the text of the rules called alone; it does not use `listing`
+//! 14. [`visits`]: the text of the ways visited; it uses neither `listing` nor `rules`
+//! 15. [`slices`]: the text of calls, by `listing`; it uses neither `rules` nor `visits`
+//! 16. [`purge`]: the text of a struck-out list; it uses none of the four texts before it
 //!
 //! Above them are this file and, in tests only, `cases`.
 //!
@@ -36,6 +40,7 @@
 mod cache;
 #[cfg(test)]
 mod cases;
+mod cores;
 mod domains;
 mod geometry;
 mod listing;
@@ -43,6 +48,7 @@ mod lru;
 mod maps;
 mod nru;
 mod numbers;
+mod purge;
 mod refusals;
 mod replacement;
 mod rules;
@@ -65,20 +71,29 @@ fn read_file() -> io::Result<Vec<u8>> {
     Ok(file)
 }
 
-/// What is to be written about a file, by the arguments of the program.
-fn text_wanted() -> io::Result<fn(&[u8]) -> String> {
-    let mut arguments = env::args_os().skip(1);
-    match (arguments.next(), arguments.next()) {
-        (None, _) => Ok(listing::of_file),
-        (Some(word), None) if word == "rules" => Ok(rules::of_file),
-        (Some(word), None) if word == "visits" => Ok(visits::of_file),
-        (Some(word), None) if word == "slices" => Ok(slices::of_file),
-        _ => Err(io::Error::other("usage: reference [rules | visits | slices] < FILE")),
+/// What is to be written about a file.
+type TextOf = Box<dyn Fn(&[u8]) -> String>;
+
+/// What is wanted, by the arguments of the program.
+fn text_wanted(arguments: &[String]) -> Option<TextOf> {
+    let words: Vec<&str> = arguments.iter().map(String::as_str).collect();
+    match words[..] {
+        [] => Some(Box::new(listing::of_file)),
+        ["rules"] => Some(Box::new(rules::of_file)),
+        ["visits"] => Some(Box::new(visits::of_file)),
+        ["slices"] => Some(Box::new(slices::of_file)),
+        ["purge", domain] => {
+            let domain = (0..domains::DOMAINS as u8).find(|number| number.to_string() == domain)?;
+            Some(Box::new(move |file| purge::of_file(domain, file)))
+        }
+        _ => None,
     }
 }
 
 fn main() -> io::Result<()> {
-    let text_of = text_wanted()?;
+    let arguments: Vec<String> = env::args_os().skip(1).map(|word| word.to_string_lossy().into_owned()).collect();
+    let usage = "usage: reference [rules | visits | slices | purge DOMAIN] < FILE, where DOMAIN is 0 to 15";
+    let text_of = text_wanted(&arguments).ok_or(io::Error::other(usage))?;
     let file = read_file()?;
     io::stdout().lock().write_all(text_of(&file).as_bytes())
 }

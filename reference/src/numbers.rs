@@ -1,6 +1,7 @@
 //! "When a step is turned down": the numbers. What is asked for each of them stands where it is asked: number 10 in
-//! `trace`, 1 in `geometry`, the others in `refusals`; 5 and 9 of the rules called alone in `rules`. By document 02, "1
-//! moves to the new limit" of sets, and 10 has one more reason.
+//! `trace`, 1 in `geometry`, 11 in `cores` with 3 and 5 of a selector write, the others in `refusals`; 5 and 9 of the
+//! rules called alone in `rules`. By document 02, "1 moves to the new limit" of sets, 10 has one more reason, and 11 is
+//! new.
 
 /// The refusals that a trace file can meet, each with its number. (No file of 4,096 steps reaches `CountSpent`.)
 #[derive(Clone, Copy, PartialEq, Eq, Debug)]
@@ -24,6 +25,8 @@ pub enum Refusal {
     /// "Trace file under 8 bytes, not of its length, or with more than 4,096 steps. It comes before all others and
     /// ends the run." By document 02, "10 also covers a file naming more than 256 sets".
     TraceFile = 10,
+    /// By document 02, "11, a list too long or, for these kinds, a core not in it, checked after 2 and before 3".
+    Core = 11,
 }
 
 impl Refusal {

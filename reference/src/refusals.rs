@@ -1,6 +1,6 @@
 //! "When a step is turned down": "The answer is the number alone and nothing else moves. If several hold, the lowest
 //! number is given." The tests below are therefore made in the order of their numbers. They are given the geometry and
-//! the domains, to read only, and no table.
+//! the domains, to read only, and no table. Number 11, which by document 02 comes before 3, is asked in `cores`.
 
 use crate::domains::{Domains, Policy, DOMAINS};
 use crate::geometry::{Geometry, Rule};

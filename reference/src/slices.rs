@@ -2,8 +2,9 @@
 //! a file are calls, which may have any number of sets.
 //!
 //! The calls come from a file in the form of a trace file, and their text is in the form of a listing. Whichever sets,
-//! ways and rule the file names are those of its calls: outside the limits each call is refused by 1. So the text of a
-//! file that stands as a trace file is its listing.
+//! ways and rule the file names are those of its calls: outside the limits each call is refused by 1. No list of cores
+//! is lent: the kinds that name a core are unknown. So the text of a file that stands as a trace file, and has no step
+//! of these kinds, is its listing.
 
 use crate::listing;
 use crate::trace::Form;
@@ -11,7 +12,7 @@ use crate::trace::Form;
 /// The whole text. A file without the form gives the one line `refused 10`.
 pub fn of_file(file: &[u8]) -> String {
     match Form::read(file) {
-        Ok(form) => listing::of_calls(&form),
+        Ok(form) => listing::of_calls(&form, None),
         Err(refusal) => listing::of_refused(refusal),
     }
 }

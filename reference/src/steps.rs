@@ -2,7 +2,8 @@
 
 use crate::numbers::Refusal;
 
-/// A step as the trace file has it: any domain number, kind and argument.
+/// A step as the trace file has it: any domain number, kind and argument. By document 02, kinds 32 to 35 and 40 have "a
+/// core in place of the domain" where a list of cores is lent.
 #[derive(Clone, Copy, PartialEq, Eq, Debug)]
 pub struct Step {
     pub domain: u8,
@@ -21,6 +22,7 @@ pub enum Kind {
 
 impl Kind {
     /// "Kinds: 0 instruction fetch, 1 load, 2 store, 3 flush, 16 policy. Kinds 4 to 15 and 17 to 255 are unknown."
+    /// Those that name a core are for `cores` to know.
     pub fn from_number(number: u8) -> Option<Kind> {
         match number {
             0 => Some(Kind::Fetch),
@@ -42,5 +44,6 @@ pub enum Answer {
     Flush { way: usize, dirty: bool },
     Absent,
     Policy { dropped: u32, dirty_dropped: u32 },
+    Select { cs: u8, ds: u8, es: u8 },
     Refused(Refusal),
 }

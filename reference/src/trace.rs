@@ -40,6 +40,15 @@ impl Form {
         Ok(Form { sets, ways: header[2], rule: header[3], steps: steps(body, n as usize) })
     }
 
+    /// Reads a whole trace file: number 10 also for more sets than a file may name.
+    pub fn read_trace(file: &[u8]) -> Result<Form, Refusal> {
+        let form = Form::read(file)?;
+        if form.sets > MOST_SETS {
+            return Err(Refusal::TraceFile);
+        }
+        Ok(form)
+    }
+
     /// The geometry that it names, or number 1.
     pub fn geometry(&self) -> Result<Geometry, Refusal> {
         Geometry::new(self.sets, self.ways, self.rule)
@@ -57,10 +66,7 @@ impl Trace {
     /// Reads a whole file. Number 10, of its form or its number of sets, "comes before all others"; then number 1, of
     /// its geometry.
     pub fn read(file: &[u8]) -> Result<Trace, Refusal> {
-        let form = Form::read(file)?;
-        if form.sets > MOST_SETS {
-            return Err(Refusal::TraceFile);
-        }
+        let form = Form::read_trace(file)?;
         Ok(Trace { geometry: form.geometry()?, form })
     }
 }

@@ -1,12 +1,19 @@
 //! The ways that lookups visit: by document 02, the hit lookup "also answers how many ways it visited".
 //!
-//! The text of a trace has a line for each step: the number of ways that its lookup visited, in decimal. A step without
-//! a lookup has 0: a policy change, and a step that is turned down.
+//! The text of a trace has a line for each step with two numbers in decimal: the number of ways that its lookup
+//! visited, and the domain that the cache took it for. A step without a lookup has 0 ways: a policy change, a selector
+//! write, and a step that is turned down. The domain is the one that the step names or, through a core, the one that
+//! the selector names; of a selector write, and of a core that is not in the list, it is 65535, for none. 32 fresh
+//! records are lent, as the lister lends them.
 
 use std::fmt::Write;
 
 use crate::cache::Cache;
+use crate::cores;
 use crate::trace::Trace;
+
+/// In place of a domain's number, where a step is none of the cache.
+const NO_DOMAIN: u16 = 65_535;
 
 /// Writing to a text cannot fail.
 const WRITTEN: &str = "text takes every line";
@@ -20,11 +27,12 @@ pub fn of_file(file: &[u8]) -> String {
 }
 
 fn of_trace(trace: &Trace) -> String {
-    let mut text = String::with_capacity(3 * trace.form.steps.len());
-    let mut cache = Cache::fresh(trace.geometry);
+    let mut text = String::with_capacity(6 * trace.form.steps.len());
+    let (mut cache, mut cores) = (Cache::fresh(trace.geometry), cores::fresh());
     for step in &trace.form.steps {
-        let (_, visited) = cache.step_and_visits(step);
-        writeln!(text, "{visited}").expect(WRITTEN);
+        let domain = cores::plain(&cores, step).map_or(NO_DOMAIN, |plain| u16::from(plain.domain));
+        let (_, visited) = cores::step_and_visits(&mut cache, &mut cores, step);
+        writeln!(text, "{visited} {domain}").expect(WRITTEN);
     }
     text
 }
