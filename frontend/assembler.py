@@ -2,7 +2,8 @@
 from __future__ import annotations
 
 from frontend.source import Line, Source, Token, close_to, unknown
-from frontend.stepline import is_kind, read_step, repeated
+from frontend.stepline import is_core, is_kind, read_step, unnamed
+from frontend.text import CORE
 from frontend.tracefile import LARGEST_BYTE, MAX_SETS, MAX_STEPS, RULES, SETS_LIMIT, Step, Trace
 
 _DIGITS = "0123456789"
@@ -10,7 +11,8 @@ _HEADERS = {"sets": (MAX_SETS, "sets 64"), "ways": (LARGEST_BYTE, "ways 8"), "ru
 _LIMITS = {"sets": SETS_LIMIT}  # what is told of a number that is too large, if not how far such numbers go
 _RULE_NUMBERS = {**{name: number for number, name in RULES.items()}, "tree-plru": 0}
 _RULES_ARE = "Rules are tree (or tree-plru), nru, lru, or a number"
-_LINES_ARE = "A line is 'sets N', 'ways N', 'rule NAME' or a step, 'DOMAIN KIND ARGUMENT'"
+_NO_WORD = "domain"  # what somebody may write who writes `core 3`
+_LINES_ARE = f"A line is 'sets N', 'ways N', 'rule NAME' or a step, 'DOMAIN KIND ARGUMENT' or '{CORE} N KIND ARGUMENT'"
 
 
 def assemble(name: str, data: bytes) -> Trace:
@@ -80,12 +82,13 @@ class _Assembler:
         word = first.text.partition("=")[0]
         self.misspelt.add(close_to(word, _HEADERS) or "")
         if is_kind(first.text):
-            kind = repeated(first.text, "kind=N")
-            line.fault(first, f"the domain is missing; a step starts with it, as in '0 {kind} ...'")
+            line.fault(first, unnamed(first.text))
+        elif word == _NO_WORD:
+            line.fault(first, "a domain is named by its number alone; write it as in '0 load 0x40'")
         elif word in _HEADERS:
             line.fault(first, f"a header line has no '='; write it as in '{_HEADERS[word][1]}'")
         else:
-            line.fault(first, unknown("word", first.text, close_to(word, _HEADERS), _LINES_ARE))
+            line.fault(first, unknown("word", first.text, close_to(word, (*_HEADERS, CORE)), _LINES_ARE))
 
     def _check_header(self) -> None:
         """Note each header line that is missing, at the first step or at the end."""
@@ -97,8 +100,9 @@ class _Assembler:
 
 
 def _starts_step(tokens: list[Token]) -> bool:
-    """Tell whether a line is meant as a step: its first word is a number, or its second a kind."""
-    return tokens[0].text[0] in _DIGITS or (len(tokens) > 1 and is_kind(tokens[1].text))
+    """Tell whether a line is meant as a step: its first word is a number or a core's, or its second a kind."""
+    first = tokens[0].text
+    return first[0] in _DIGITS or is_core(first) or (len(tokens) > 1 and is_kind(tokens[1].text))
 
 
 def _header_value(line: Line, word: str) -> int | None:

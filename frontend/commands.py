@@ -45,10 +45,11 @@ def show(args: argparse.Namespace) -> int:
 def isolate_domain(args: argparse.Namespace) -> int:
     """Show what a domain sees in the whole run and in its struck-out run, and tell whether there is a difference."""
     data, name = files.read_trace(args.file), files.title(args.file)
-    trace = run.decode(args.file, data)
+    run.decode(args.file, data)  # a file that is refused by 10 needs no program
     programs.need(*programs.NAMES)
     whole = run.with_own(run.take(args.file, data), args.domain)
-    struck_run = run.with_own(_take_struck(struck.kept(trace, args.domain, programs.purger(data, args.domain))), args.domain)
+    kept = struck.kept(whole, args.domain, programs.purger(data, args.domain))
+    struck_run = run.with_own(_take_struck(kept), args.domain)
     found = compare(whole, struck_run, args.domain)
     streams.write_out_text(isolate.render(name, args.domain, whole, struck_run, found, paint.for_output()))
     return DIFFERENCE if found.differences() else DONE

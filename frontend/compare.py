@@ -4,7 +4,7 @@ from __future__ import annotations
 from collections.abc import Callable
 from dataclasses import dataclass
 
-from frontend import maps, stepper, words
+from frontend import cores, maps, stepper, words
 from frontend.errors import MachineFailure
 from frontend.listing import Listing
 from frontend.numbers import counted
@@ -55,9 +55,14 @@ class Comparison:
 
 def compare(whole: Run, struck: Run, domain: int) -> Comparison:
     """Compare what a domain sees in the whole run and in its struck-out run."""
-    own = _pairs(whole, struck, lambda step: step.domain == domain, _answer)
-    others = _pairs(whole, struck, lambda step: step.domain != domain and step.kind == POLICY, _verdict)
+    own = _pairs(whole, struck, lambda run, place: run.domain(place) == domain, _answer)
+    others = _pairs(whole, struck, lambda run, place: _is_policy(run, place) and run.domain(place) != domain, _verdict)
     return Comparison(own, others, [ending for part in _AT_THE_END for ending in part(whole, struck, domain)])
+
+
+def _is_policy(run: Run, place: int) -> bool:
+    """Tell whether a step is a policy change."""
+    return run.trace.steps[place].kind == POLICY
 
 
 def _answer(run: Run, place: int) -> str:
@@ -72,9 +77,9 @@ def _verdict(run: Run, place: int) -> str:
     return "accepted" if answer.word == "policy" else str(answer)
 
 
-def _pairs(whole: Run, struck: Run, chosen: Callable[[Step], bool], view: Callable[[Run, int], str]) -> list[Pair]:
+def _pairs(whole: Run, struck: Run, chosen: Callable[[Run, int], bool], view: Callable[[Run, int], str]) -> list[Pair]:
     """Pair the n-th chosen step of one run with the n-th of the other."""
-    places = [[i for i, step in enumerate(run.trace.steps) if chosen(step)] for run in (whole, struck)]
+    places = [[i for i in range(len(run.trace.steps)) if chosen(run, i)] for run in (whole, struck)]
     steps = [[run.trace.steps[i] for i in found] for run, found in zip((whole, struck), places)]
     if steps[0] != steps[1]:
         raise MachineFailure("the struck-out run does not have the steps that are compared")
@@ -141,4 +146,15 @@ def _own_in_all(run: Run, parts: list[str]) -> str:
     return f"{counted(ones, 'bit')} one"
 
 
-_AT_THE_END = (_counts, _maps, _lines, _own_data)  # whatever else is compared at the end is one more function here
+def _records(whole: Run, struck: Run, _domain: int) -> list[Ending]:
+    """Compare the core records: each that differs, or how many have a selector that is not zero."""
+    left, right = (run.blocks[-1].records for run in (whole, struck))
+    written = zip(map(cores.write, left), map(cores.write, right))
+    endings = [Ending(seen, f"record of core {core}") for core, seen in enumerate(written)]
+    different = [ending for ending in endings if not ending.same]
+    in_all = f"{sum(map(any, left))} of {len(left)} not zero"
+    return different or [Ending((in_all, in_all), "core records")]
+
+
+# Whatever else is compared at the end is one more function here.
+_AT_THE_END = (_counts, _maps, _lines, _own_data, _records)

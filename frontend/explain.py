@@ -5,7 +5,7 @@ import textwrap
 from collections.abc import Iterator
 from dataclasses import dataclass
 
-from frontend import maps, words
+from frontend import cores, maps, refusals, words
 from frontend.listing import Answer
 from frontend.numbers import counted, hexadecimal
 from frontend.paint import Paint
@@ -19,6 +19,7 @@ _WIDTH = 100
 _COLOURS = {"refused": "red", "hit": "green"}
 _ONES = {0: ("right at node", "right at nodes"), 1: ("one at way", "one at ways")}
 _BY_STATE = (6, 7, 8, 9)  # the refusals that depend on what the domains have
+_NO_ROWS = ("refused", "select")  # the answers of steps that change no row
 
 
 @dataclass(frozen=True)
@@ -57,21 +58,23 @@ class Explainer:
         answer = self._listing.answers[place]
         before, after = self._blocks[place], self._blocks[place + 1]
         yield self._paint("bold", f"step {place}  {words.step(step)}")
-        yield from self._answer(answer, _locked(before, step.domain))
+        if cores.place(step) is not None and after.domain is not None:
+            yield f"  {words.route(step, after.domain)}"
+        yield from self._answer(answer, _said(step, answer, before, after))
         if after.visited:
             yield f"  The lookup visited {counted(after.visited, 'way')}."
         if answer.word == "policy" or answer.word == "refused" and answer.fields[0] in _BY_STATE:
             yield from _maps(before, after)
-        if answer.word == "refused" and not after.rows:
+        if answer.word in _NO_ROWS and not after.rows:
             return
         numbers = sorted(after.rows) if step.kind == POLICY else sorted({after.set, *after.rows})
         yield from self._changes(numbers, before, after)
         self._rows.update(after.rows)
 
-    def _answer(self, answer: Answer, locked: int) -> Iterator[str]:
+    def _answer(self, answer: Answer, said: str) -> Iterator[str]:
         """Tell the answer, as listed and in words."""
         yield "  " + self._paint(_COLOURS.get(answer.word, "yellow"), str(answer))
-        yield from textwrap.wrap(words.answer(answer, locked), _WIDTH, initial_indent="  ", subsequent_indent="  ")
+        yield from textwrap.wrap(said, _WIDTH, initial_indent="  ", subsequent_indent="  ")
 
     def _changes(self, numbers: list[int], before: Block, after: Block) -> Iterator[str]:
         """Tell the rows of some sets before and after a step, but no more than are wanted."""
@@ -112,6 +115,20 @@ class Explainer:
         return f"{text} ({held})" if held else text
 
 
+def _said(step: Step, answer: Answer, before: Block, after: Block) -> str:
+    """Say what an answer means, by the blocks before and after its step."""
+    if answer.word == "refused":
+        return refusals.of_step(answer.fields[0], step, after.domain)
+    if answer.word == "select":
+        return words.selected(_record(before, step.named), _record(after, step.named))
+    return words.answer(answer, _locked(before, after.domain))
+
+
+def _record(block: Block, core: int) -> tuple[int, ...]:
+    """Give the selectors of a core; none for a core that has no record."""
+    return block.records[core] if core < len(block.records) else ()
+
+
 def _ones(rule: int, word: int) -> str | None:
     """Say where the bits of a replacement word are one, if any is."""
     if not word or rule not in _ONES:
@@ -133,9 +150,9 @@ def _maps(before: Block, after: Block) -> Iterator[str]:
         yield "  no domain has ways"
 
 
-def _locked(block: Block, domain: int) -> int:
+def _locked(block: Block, domain: int | None) -> int:
     """Give the map of the ways that are in a domain's hit map and not in its fill map; empty for what is no domain."""
-    return block.hit[domain] & ~block.fill[domain] if domain < len(block.hit) else 0
+    return block.hit[domain] & ~block.fill[domain] if domain is not None and domain < len(block.hit) else 0
 
 
 def _holders(domain_maps: tuple[int, ...], way: int) -> str:

@@ -14,7 +14,8 @@ STATUS = "\n".join(("exit status:", *(f"  {status:<4} {meaning}" for status, mea
 LIST = """\
 Print the listing of a trace, byte for byte what target/bin/lister writes: sets,
 ways, rule and number of steps; an answer for each step; and the counts of each
-domain that has ways.
+domain that has ways. A step names a domain or a core; the lister lends records for
+cores 0 to 31, whose selectors CS, DS and ES are zero at first, which is domain 0.
 
 A file that is refused as a whole has a listing too, 'refused' and the number: 10
 if it has not the length of a trace file, or too many steps or sets; else 1 if its
@@ -42,9 +43,13 @@ a line:
   1 policy hit=0x3 fill=0x3     a number with 0x or 0b is a mask: bit w is way w
   0 policy arg=0x1_0000_0003    the whole argument of a policy, as a number
   7 kind=9 0x123                any kind by its number, and its argument
+  core 3 load 0x40              a core in place of the domain; the same four kinds
+  core 3 select cs=0 ds=1 es=1  its selectors, each a domain; in any order
+  core 3 select arg=0x100_0000  the whole argument of a select, as a number
 
-Numbers are decimal, 0x or 0b, and '_' may stand between digits. '#' starts a
-comment. Whatever a trace file can hold is assembled, also where the cache will
+CS is the domain of a core's fetches, DS of its loads and flushes, ES of its
+stores. Numbers are decimal, 0x or 0b, and '_' may stand between digits. '#' starts
+a comment. Whatever a trace file can hold is assembled, also where the cache will
 refuse it, such as 3 sets. A trace file holds at most 256 sets, and at most 4,096
 steps; calls of the proved library take up to 4,096 sets. Every error is told with
 its line and column; then nothing is written. A text may have up to 4,194,304
@@ -62,11 +67,16 @@ ISOLATE = """\
 Run a trace, and the trace with the accesses and flushes of all other domains
 struck out (by target/bin/purger), and show side by side what DOMAIN sees: the
 answers to its steps; at the end its line of the listing, its maps, the lines in
-its ways and its own replacement data (by target/bin/parts); and whether the
-policy changes of other domains are accepted. That these are equal for every
-trace is the first claim of docs/CLAIMS.md; how many ways each of its hit lookups
-visited (see 'explain --help') is equal by another, 'Lookups in both runs'. That
-the purger's list is the struck-out list is checked, step by step.
+its ways and its own replacement data (by target/bin/parts), and the core records;
+and whether the policy changes of other domains are accepted. That these are equal
+for every trace, and how many ways each of its hit lookups visited (see 'explain
+--help') too, is the claim 'The struck-out run where cores switch' of
+docs/CLAIMS.md. That the purger's list is the struck-out list is checked, step by
+step.
+
+An access or a flush by a core belongs to the domain that the core's selector names
+at that moment of the run, as target/bin/stepper says. Where the core is not in the
+list it belongs to no domain and is kept, and so is every write of selectors.
 
 FILE is as for list. Exit status: 0 no difference, 1 a difference; the others are
 those of 'dipperlock --help'.
@@ -79,6 +89,10 @@ target/bin/stepper gives them: tag, dirty, invalid, the domains whose hit map an
 fill map hold the way, and the replacement word, under true LRU also as the order
 of the ways. What changed is marked '*'. A policy step shows the sets that it
 changed.
+
+Of an access and a flush by a core it is said first through which selector the step
+goes, and which domain that names at that moment; the rest is as for a step of that
+domain. Of a write of selectors it is said which of them changed, from what to what.
 
 An access and a flush that are not refused also say how many ways the hit lookup
 visited: the ways of the domain's hit map, lowest first, up to and including the
@@ -94,8 +108,8 @@ EXAMPLES = {
     "list": ("./dipperlock list examples/case-a.txt",),
     "assemble": ("./dipperlock assemble examples/case-a.txt -o case-a.trace", "./dipperlock list case-a.trace"),
     "show": ("./dipperlock assemble examples/case-a.txt -o case-a.trace", "./dipperlock show case-a.trace"),
-    "isolate": ("./dipperlock isolate examples/case-a.txt 0",),
-    "explain": ("./dipperlock explain examples/case-a.txt",),
+    "isolate": ("./dipperlock isolate examples/case-a.txt 0", "./dipperlock isolate examples/core-switch.txt 1"),
+    "explain": ("./dipperlock explain examples/case-a.txt", "./dipperlock explain examples/core-switch.txt"),
 }
 
 

@@ -9,7 +9,7 @@ from frontend.numbers import counted
 from frontend.paint import Paint
 from frontend.run import Run
 from frontend.table import columns
-from frontend.tracefile import Step
+from frontend.tracefile import Step, Trace
 
 MOST_TOLD = 5  # differences that are told in a sentence each
 MOST_ENDINGS = 8  # differences at the end that are shown in the table
@@ -20,15 +20,14 @@ def render(name: str, domain: int, whole: Run, struck: Run, found: Comparison, p
     """Lay a comparison out for a reader."""
     differences = found.differences()
     first = differences[0] if differences else None
-    gone = len(whole.trace.steps) - len(struck.trace.steps)
     lines = [
         f"{name}: {words.geometry(whole.trace)}, {counted(len(whole.trace.steps), 'step')}",
-        f"Struck out: {counted(gone, 'step')}, the accesses and flushes of domains other than {domain}",
+        _struck_out(domain, whole.trace, struck.trace),
         "",
         f"Steps of domain {domain}, their answers, and how many ways their lookups visited",
-        *_pair_table(found.own, words.deed, first, paint),
+        *_pair_table(found.own, _own_step, first, paint),
         "",
-        f"Domain {domain} at the end",
+        f"Domain {domain} and the core records at the end",
         *_ending_table(found.endings, first, paint),
         "",
         "Policy changes of other domains: accepted, or the refusal",
@@ -37,6 +36,19 @@ def render(name: str, domain: int, whole: Run, struck: Run, found: Comparison, p
         *(paint("red" if differences else "green", line) for line in _conclusion(domain, differences)),
     ]
     return "\n".join(lines) + "\n"
+
+
+def _struck_out(domain: int, whole: Trace, struck: Trace) -> str:
+    """Say how many steps are struck out, and how many of them are by cores."""
+    gone = len(whole.steps) - len(struck.steps)
+    by_core = sum(step.by_core for step in whole.steps) - sum(step.by_core for step in struck.steps)
+    said = f"Struck out: {counted(gone, 'step')}, the accesses and flushes of domains other than {domain}"
+    return f"{said}, {by_core:,} of them by cores whose selectors named such a domain" if by_core else said
+
+
+def _own_step(step: Step) -> str:
+    """Say what a step of the chosen domain does, and which core makes it, if one does."""
+    return words.step(step) if step.by_core else words.deed(step)
 
 
 def _pair_table(pairs: list[Pair], say: Callable[[Step], str], first: Compared | None, paint: Paint) -> list[str]:

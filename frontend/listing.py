@@ -12,7 +12,7 @@ from frontend.tracefile import Trace
 
 DOMAINS = 16
 FILE_REFUSED = 10  # the number by which a file is refused that has not the length, steps or sets of a trace file
-_FIELDS = {"hit": 1, "fill": 1, "evict": 3, "pass": 0, "flush": 2, "absent": 0, "policy": 2, "refused": 1}
+_FIELDS = {"hit": 1, "fill": 1, "evict": 3, "pass": 0, "flush": 2, "absent": 0, "policy": 2, "select": 3, "refused": 1}
 _NUMBER = "(0|[1-9][0-9]{0,19})"
 _REFUSED = re.compile("refused (1|10)")
 _HEADER = re.compile(" ".join([_NUMBER] * 4))
@@ -91,7 +91,8 @@ def _with_ways(trace: Trace, answers: tuple[Answer, ...]) -> list[int]:
     """List the domains that have ways at the end: those whose last accepted policy has a hit map.
 
     This asks nothing of the cache. Only so can a listing be told from one whose last lines are missing."""
-    hit = {step.domain: step.argument & maps.LARGEST for step, answer in zip(trace.steps, answers) if answer.word == "policy"}
+    accepted = (step for step, answer in zip(trace.steps, answers) if answer.word == "policy")
+    hit = {step.named: step.argument & maps.LARGEST for step in accepted}
     return sorted(domain for domain, word in hit.items() if word)
 
 

@@ -3,7 +3,7 @@ from __future__ import annotations
 
 from dataclasses import dataclass, replace
 
-from frontend import files, listing, parts, programs, source, stepper, tracefile, words
+from frontend import files, listing, parts, programs, refusals, source, stepper, tracefile, words
 from frontend.errors import BadInput
 from frontend.listing import Listing
 from frontend.stepper import Block
@@ -21,6 +21,10 @@ class Run:
     listing: Listing
     blocks: list[Block]
     own: tuple[int, ...] = ()
+
+    def domain(self, place: int) -> int | None:
+        """Give the domain that a step belongs to: the one that the cache took it for at that moment, if any."""
+        return self.blocks[place + 1].domain
 
 
 def take(name: str, data: bytes) -> Run:
@@ -63,7 +67,7 @@ def why_refused(name: str, data: bytes, number: int) -> str:
         return f"{refused}: {fault}.{_hint(data)}"
     if number == _GEOMETRY and not fault:
         refused += f": {words.geometry(tracefile.decode(data))}"
-    return f"{refused}. {words.refusal(number)}"
+    return f"{refused}. {refusals.of_number(number)}"
 
 
 def _hint(data: bytes) -> str:

@@ -1,4 +1,5 @@
-"""The stepper's stream, taken apart: the maps, how many ways each step's lookup visited, and the rows that each step changed.
+"""The stepper's stream, taken apart: the maps and the core records, how many ways each step's lookup visited, the
+domain that the step was taken for, and the rows that it changed.
 
 A block has the row of an access's or a flush's set, and all rows for a policy change; the rows that are as they were are
 left out here."""
@@ -7,13 +8,17 @@ from __future__ import annotations
 import struct
 from dataclasses import dataclass, replace
 
+from frontend import cores
 from frontend.errors import MachineFailure
 from frontend.numbers import counted
-from frontend.tracefile import Trace
+from frontend.text import show_step
+from frontend.tracefile import SELECT, Step, Trace
 
 DOMAINS = 16
+NO_DOMAIN = 0xFFFF  # the number that stands for no domain
 _MAPS = struct.Struct(f"<{2 * DOMAINS}H")
-_PLACE = struct.Struct("<HHH")
+_RECORDS = struct.Struct(f"<{cores.LENT * len(cores.SELECTORS)}B")
+_PLACE = struct.Struct("<HHHH")
 
 
 @dataclass(frozen=True)
@@ -28,14 +33,17 @@ class Row:
 
 @dataclass(frozen=True)
 class Block:
-    """What stands after a step: each domain's maps, the set of the step's argument, and the rows that changed.
+    """What stands after a step: the domains' maps, the cores' selectors, its argument's set, the rows that changed.
 
-    `visited` is how many ways the step's lookup visited; it is 0 where the step made none."""
+    `visited` is how many ways the step's lookup visited; it is 0 where the step made none. `domain` is the one that
+    the cache took the step for; None where the step is none of the cache's, as a write of selectors."""
 
     hit: tuple[int, ...]
     fill: tuple[int, ...]
+    records: tuple[tuple[int, ...], ...]
     set: int
     visited: int
+    domain: int | None
     rows: dict[int, Row]
 
 
@@ -58,6 +66,7 @@ def parse(data: bytes, trace: Trace) -> list[Block]:
     most = max(block.visited for block in blocks)
     if most > trace.ways:
         raise _misfit(f"a lookup visited {counted(most, 'way')}, and the trace has {counted(trace.ways, 'way')}")
+    _check_domains(blocks, trace)
     return blocks
 
 
@@ -69,6 +78,32 @@ def rows_at_end(blocks: list[Block]) -> dict[int, Row]:
     return rows
 
 
+def _check_domains(blocks: list[Block], trace: Trace) -> None:
+    """Hold each step's domain against the one that it names or its core selects, and the records against its kind."""
+    if blocks[0].domain is not None:
+        raise _misfit(f"it has {_title(blocks[0].domain)} before the first step")
+    for place, (step, before, after) in enumerate(zip(trace.steps, blocks, blocks[1:])):
+        which, due = f"step {place}, '{show_step(step)}',", _domain_of(step, before)
+        if after.domain != due:
+            raise _misfit(f"{which} was taken for {_title(after.domain)}, and should be for {_title(due)}")
+        changed = [core for core, record in enumerate(after.records) if record != before.records[core]]
+        if changed and (step.kind, changed) != (SELECT, [step.named]):
+            raise _misfit(f"{which} changed the record of core {changed[0]}")
+
+
+def _domain_of(step: Step, before: Block) -> int | None:
+    """Give the domain that a step names, or its core's selector in the block before; None if there is none."""
+    if not step.by_core:
+        return step.named
+    place = cores.place(step)
+    return None if place is None or step.named >= len(before.records) else before.records[step.named][place]
+
+
+def _title(domain: int | None) -> str:
+    """Name a domain in a message."""
+    return "no domain" if domain is None else f"domain {domain}"
+
+
 def _misfit(what: str) -> MachineFailure:
     """Make the error of a stream that is not one of its trace."""
     return MachineFailure(f"target/bin/stepper did not give a whole stream of this trace: {what}")
@@ -78,7 +113,9 @@ def _block(data: bytes, offset: int, ways: int) -> tuple[Block, int]:
     """Take one block off a stream; give it and the offset of the next."""
     maps = _MAPS.unpack_from(data, offset)
     offset += _MAPS.size
-    place, count, visited = _PLACE.unpack_from(data, offset)
+    records = _records(_RECORDS.unpack_from(data, offset))
+    offset += _RECORDS.size
+    place, count, visited, domain = _PLACE.unpack_from(data, offset)
     offset += _PLACE.size
     form = struct.Struct(f"<HHHQ{ways}Q")
     rows = {}
@@ -86,4 +123,10 @@ def _block(data: bytes, offset: int, ways: int) -> tuple[Block, int]:
         number, valid, dirty, word, *tags = form.unpack_from(data, offset)
         rows[number] = Row(valid, dirty, word, tuple(tags))
         offset += form.size
-    return Block(maps[::2], maps[1::2], place, visited, rows), offset
+    return Block(maps[::2], maps[1::2], records, place, visited, None if domain == NO_DOMAIN else domain, rows), offset
+
+
+def _records(numbers: tuple[int, ...]) -> tuple[tuple[int, ...], ...]:
+    """Put the selectors of all cores into a record for each."""
+    size = len(cores.SELECTORS)
+    return tuple(numbers[start : start + size] for start in range(0, len(numbers), size))

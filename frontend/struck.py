@@ -1,6 +1,7 @@
-"""The struck-out list: what the purger keeps of a trace, held against what document 01 says that it keeps.
+"""The struck-out list: what the purger keeps of a trace, held against what documents 01 and 02 say that it keeps.
 
-Which steps are struck out goes by their domain and kind alone. So the front end can say it without a rule of the cache."""
+Which steps are struck out goes by their kind and by the domain that they belong to. That is the one for which they
+were taken in the whole run, as the stepper says. So the front end can say it without a rule of the cache."""
 from __future__ import annotations
 
 import re
@@ -10,33 +11,40 @@ from itertools import zip_longest
 from frontend.errors import MachineFailure
 from frontend.numbers import counted
 from frontend.quote import quoted
+from frontend.run import Run
 from frontend.text import show_step
-from frontend.tracefile import Step, Trace
+from frontend.tracefile import CORE_KINDS, KINDS, POLICY, SELECT, Step, Trace
 
-_STRUCK_KINDS = range(4)  # accesses and flushes
+_STRUCK_KINDS = {*KINDS, *CORE_KINDS} - {POLICY, SELECT}  # accesses and flushes
 _NUMBER = "(0|[1-9][0-9]{0,19})"
 _LINE = re.compile(" ".join([_NUMBER] * 3))
 
 
-def kept(trace: Trace, domain: int, lines: bytes) -> Trace:
+def kept(whole: Run, domain: int, lines: bytes) -> Trace:
     """Give the trace of the purger's lines; raise MachineFailure if they are not the struck-out list of a domain."""
-    due = tuple(step for step in trace.steps if step.domain == domain or step.kind not in _STRUCK_KINDS)
+    due = tuple(step for place, step in enumerate(whole.trace.steps) if not _is_struck(whole, domain, place))
     given = _steps(lines, domain)
     for place, (got, wanted) in enumerate(zip_longest(given, due)):
         if got != wanted:
             raise _differs(domain, _where(place, got, wanted))
-    return replace(trace, steps=given)
+    return replace(whole.trace, steps=given)
+
+
+def _is_struck(whole: Run, domain: int, place: int) -> bool:
+    """Tell whether a step is an access or a flush that belongs to another domain; one that belongs to none stays."""
+    return whole.trace.steps[place].kind in _STRUCK_KINDS and whole.domain(place) not in (domain, None)
 
 
 def _steps(lines: bytes, domain: int) -> tuple[Step, ...]:
-    """Read the purger's lines: domain, kind and argument."""
+    """Read the purger's lines: domain or core, kind and argument."""
     *whole, rest = lines.decode("ascii", "replace").split("\n")
     if rest:
         raise _differs(domain, f"it breaks off within line {len(whole) + 1}, {quoted(rest)}")
     matches = [_LINE.fullmatch(line) for line in whole]
     if None in matches:
         place = matches.index(None)
-        raise _differs(domain, f"line {place + 1} is {quoted(whole[place])}, and should be a domain, a kind and an argument")
+        due = "a domain or core, a kind and an argument"
+        raise _differs(domain, f"line {place + 1} is {quoted(whole[place])}, and should be {due}")
     return tuple(Step(*map(int, match.groups())) for match in matches)
 
 

@@ -1,9 +1,11 @@
 """The readable form of a trace: a text with a header and one step a line."""
 from __future__ import annotations
 
-from frontend import maps
+from frontend import cores, maps
 from frontend.numbers import hexadecimal
-from frontend.tracefile import KINDS, POLICY, RULES, Step, Trace
+from frontend.tracefile import CORE_KINDS, KINDS, POLICY, RULES, SELECT, Step, Trace
+
+CORE = "core"  # what stands before the number of a core; a number alone is a domain
 
 
 def show(trace: Trace) -> str:
@@ -15,15 +17,40 @@ def show(trace: Trace) -> str:
 
 def show_step(step: Step) -> str:
     """Write one step as a line of a text."""
+    return f"{CORE} {step.named} {_show_core(step)}" if step.by_core else f"{step.named} {_show_plain(step)}"
+
+
+def _show_plain(step: Step) -> str:
+    """Write the kind and the argument of a step that names a domain."""
     if step.kind == POLICY:
-        return f"{step.domain} policy {_show_policy(step.argument)}"
+        return f"policy {_show_policy(step.argument)}"
     kind = KINDS.get(step.kind, f"kind={step.kind}")
-    return f"{step.domain} {kind} {hexadecimal(step.argument)}"
+    return f"{kind} {hexadecimal(step.argument)}"
+
+
+def _show_core(step: Step) -> str:
+    """Write the kind and the argument of a step that names a core."""
+    if step.kind == SELECT:
+        return f"select {_show_select(step.argument)}"
+    return f"{CORE_KINDS[step.kind]} {hexadecimal(step.argument)}"
 
 
 def _show_policy(argument: int) -> str:
     """Write a policy's argument as its two maps, or as a number if it has a bit above them."""
     if argument >> 2 * maps.WAYS:
-        return f"arg={hexadecimal(argument)}"
+        return _show_whole(argument)
     hit, fill = argument & maps.LARGEST, argument >> maps.WAYS
     return f"hit={maps.write(hit)} fill={maps.write(fill)}"
+
+
+def _show_select(argument: int) -> str:
+    """Write a select step's argument as its three selectors, or as a number if another byte of it is not zero."""
+    selectors = cores.split(argument)
+    if selectors is None:
+        return _show_whole(argument)
+    return " ".join(f"{name.lower()}={selector}" for name, selector in zip(cores.SELECTORS, selectors))
+
+
+def _show_whole(argument: int) -> str:
+    """Write an argument as a number, where its parts do not say all of it."""
+    return f"arg={hexadecimal(argument)}"

@@ -12,6 +12,8 @@ MAX_SETS = 256
 SETS_LIMIT = f"a trace file holds at most {MAX_SETS} sets (calls of the proved library take up to 4,096)"
 POLICY = 16
 KINDS = {0: "fetch", 1: "load", 2: "store", 3: "flush", POLICY: "policy"}
+SELECT = 40
+CORE_KINDS = {32: "fetch", 33: "load", 34: "store", 35: "flush", SELECT: "select"}  # of steps that name a core
 LRU = 2
 RULES = {0: "tree", 1: "nru", LRU: "lru"}
 LARGEST_BYTE = 0xFF
@@ -24,11 +26,16 @@ LARGEST_FILE = _HEADER.size + _STEP_SIZE * MAX_STEPS  # bytes
 
 @dataclass(frozen=True)
 class Step:
-    """One step: the domain that it names, its kind and its argument."""
+    """One step: the domain that it names, or the core if its kind is one of a core's, its kind and its argument."""
 
-    domain: int
+    named: int
     kind: int
     argument: int
+
+    @property
+    def by_core(self) -> bool:
+        """Tell whether the step names a core."""
+        return self.kind in CORE_KINDS
 
 
 @dataclass(frozen=True)
@@ -48,7 +55,7 @@ class BadTraceFile(BadInput):
 def encode(trace: Trace) -> bytes:
     """Write a trace as a trace file."""
     count = len(trace.steps)
-    codes = b"".join(bytes((step.domain, step.kind)) for step in trace.steps)
+    codes = b"".join(bytes((step.named, step.kind)) for step in trace.steps)
     arguments = struct.pack(f"<{count}Q", *(step.argument for step in trace.steps))
     return _HEADER.pack(trace.sets, trace.ways, trace.rule, count) + codes + arguments
 
@@ -61,7 +68,7 @@ def decode(data: bytes) -> Trace:
     sets, ways, rule, count = _HEADER.unpack_from(data)
     codes = data[_HEADER.size : _HEADER.size + 2 * count]
     arguments = struct.unpack_from(f"<{count}Q", data, _HEADER.size + 2 * count)
-    steps = (Step(domain, kind, argument) for domain, kind, argument in zip(codes[::2], codes[1::2], arguments))
+    steps = (Step(named, kind, argument) for named, kind, argument in zip(codes[::2], codes[1::2], arguments))
     return Trace(sets, ways, rule, tuple(steps))
 
 

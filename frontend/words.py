@@ -1,82 +1,18 @@
-"""Steps, answers and refusals in plain words."""
+"""Steps and answers in plain words."""
 from __future__ import annotations
 
-from dataclasses import dataclass
-
-from frontend import maps
+from frontend import cores, maps
 from frontend.listing import Answer
 from frontend.numbers import counted, hexadecimal
 from frontend.stepper import Row
-from frontend.tracefile import LRU, POLICY, SETS_LIMIT, Step, Trace
+from frontend.tracefile import CORE_KINDS, KINDS, LRU, POLICY, SELECT, Step, Trace
 
 _RULE_TITLES = {0: "Tree-PLRU", 1: "NRU", LRU: "true LRU"}
-_VERBS = {0: "fetches at", 1: "loads at", 2: "stores at", 3: "flushes"}
+_KINDS = {**KINDS, **CORE_KINDS}
+_VERBS = {"fetch": "fetches", "load": "loads", "store": "stores", "flush": "flushes"}
 _PLACE = 4  # bits of a way's place in an order
 _COUNTS = ("hits", "misses", "evicted", "written back", "flushed")
 _LOCKED = {"hit": "Its line is locked", "flush": "It was locked"}
-
-
-@dataclass(frozen=True)
-class Refusal:
-    """Why something is refused, and what would be right."""
-
-    why: str
-    fix: str
-
-    def __str__(self) -> str:
-        """Give both sentences."""
-        return f"{self.why} {self.fix}"
-
-
-REFUSALS = {
-    1: Refusal(
-        "The geometry is outside the limits.",
-        "Give a number of sets that is a power of two, from 1 to 256 in a trace file; 2, 4, 8 or 16 ways;"
-        " and rule 0 (tree), 1 (nru) or 2 (lru).",
-    ),
-    2: Refusal(
-        "A table does not have exactly the length that the geometry gives it.",
-        "Lend sets x ways tags, and one valid map, one dirty map and one replacement word for each set.",
-    ),
-    3: Refusal("The domain is 16 or more.", "Name a domain from 0 to 15."),
-    4: Refusal(
-        "The kind is unknown.",
-        "Use 0 (fetch), 1 (load), 2 (store), 3 (flush) or 16 (policy).",
-    ),
-    5: Refusal(
-        "The policy's argument has a way that the cache does not have, a fill map that is not part of its hit map,"
-        " or a bit above the two maps.",
-        "Name only ways below the number of ways, put every way of the fill map into the hit map too,"
-        " and leave the upper 32 bits zero.",
-    ),
-    6: Refusal(
-        "The domain's hit map is empty: it has no ways.",
-        "Give it ways by a policy step before its first access or flush.",
-    ),
-    7: Refusal(
-        "One of the domain's counts is 4,294,967,295 and cannot rise.",
-        "Remove the domain by a policy with two empty maps, which zeroes its counts, and give it its maps anew.",
-    ),
-    8: Refusal(
-        "The hit map shares a way with another domain's hit map.",
-        "Leave the shared way out, or take it from the other domain by a policy step first.",
-    ),
-    9: Refusal(
-        "A node of the tree would be free for this domain and for another one,"
-        " so that each could turn a bit that the other's victim depends on.",
-        "Choose fill maps such that no node has a way of each domain in its left half and a way of each in its right"
-        " half: aligned groups, such as ways 0,1 and ways 2,3, share no node. NRU and true LRU have no nodes to share.",
-    ),
-    10: Refusal(
-        "The trace file is under 8 bytes or not of its length, or has more than 4,096 steps or more than 256 sets.",
-        f"A file of n steps has 8 + 10 x n bytes, and n is at most 4,096; {SETS_LIMIT}.",
-    ),
-}
-
-
-def refusal(number: int) -> str:
-    """Say why something is refused by a number, and the fix."""
-    return str(REFUSALS.get(number, f"Number {number} is not one of document 01's."))
 
 
 def geometry(trace: Trace) -> str:
@@ -86,11 +22,15 @@ def geometry(trace: Trace) -> str:
 
 
 def deed(step: Step) -> str:
-    """Say what a step does, to follow the name of its domain."""
+    """Say what a step does, to follow the name of its domain or core."""
     if step.kind == POLICY:
         return _policy_deed(step.argument)
-    verb = _VERBS.get(step.kind, f"does kind {step.kind} with argument")
-    return f"{verb} {hexadecimal(step.argument)}"
+    if step.kind == SELECT:
+        return _select_deed(step.argument)
+    kind, argument = _KINDS.get(step.kind), hexadecimal(step.argument)
+    if kind not in _VERBS:
+        return f"does kind {step.kind} with argument {argument}"
+    return f"{_VERBS[kind]} {argument}" if kind == "flush" else f"{_VERBS[kind]} at {argument}"
 
 
 def _policy_deed(argument: int) -> str:
@@ -103,9 +43,30 @@ def _policy_deed(argument: int) -> str:
     return f"asks for hit map {maps.write(hit)} and fill map {maps.write(fill)}"
 
 
+def _select_deed(argument: int) -> str:
+    """Say what a select step wants."""
+    selectors = cores.split(argument)
+    if selectors is None:
+        return f"asks for the selectors of argument {hexadecimal(argument)}"
+    return f"asks for {cores.write(selectors)}"
+
+
 def step(taken: Step) -> str:
-    """Say which domain a step names and what it does."""
-    return f"domain {taken.domain} {deed(taken)}"
+    """Say which domain or core a step names and what it does."""
+    return f"{'core' if taken.by_core else 'domain'} {taken.named} {deed(taken)}"
+
+
+def route(taken: Step, domain: int) -> str:
+    """Say through which selector a core's access or flush goes, and which domain that names."""
+    selector = cores.SELECTORS[cores.place(taken)]
+    return f"Core {taken.named} {_VERBS[CORE_KINDS[taken.kind]]} through {selector}, which names domain {domain}."
+
+
+def selected(before: tuple[int, ...], after: tuple[int, ...]) -> str:
+    """Say which selectors of a core were changed by an accepted write, from what to what."""
+    pairs = zip(cores.SELECTORS, before, after)
+    changed = [f"{name} from {old} to {new}" for name, old, new in pairs if old != new]
+    return f"Accepted; changed {', '.join(changed)}." if changed else "Accepted; no selector changed."
 
 
 def line(row: Row, way: int) -> str:
@@ -133,11 +94,9 @@ def counts(values: tuple[int, ...]) -> str:
 
 
 def answer(given: Answer, locked: int = 0) -> str:
-    """Say in a sentence what an answer of the listing means, and in one more that a line hit or flushed is locked.
+    """Say in a sentence what an answer of the cache means, and in one more that a line hit or flushed is locked.
 
     `locked` is the map of the ways that are in the domain's hit map and not in its fill map."""
-    if given.word == "refused":
-        return refusal(given.fields[0])
     sentence = _SENTENCES.get(given.word)
     said = sentence(*given.fields) if sentence else "This answer is not one of document 01's."
     if given.word in _LOCKED and given.fields[0] in maps.members(locked):

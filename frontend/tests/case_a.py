@@ -32,14 +32,14 @@ _LAST = {0: Row(0b0101, 0, 0b110, (2, 1, 0, 0))}
 STREAM = b"".join(
     (
         block({}, 0, _FRESH),
-        block(_FIRST, 0, _FRESH),
-        block(_BOTH, 0, _FRESH),
-        block(_BOTH, 0, {0: Row(0b0001, 1, 0b010, (0, 0, 0, 0))}, 2),
-        block(_BOTH, 0, {0: Row(0b0011, 1, 0b000, (0, 1, 0, 0))}, 2),
-        block(_BOTH, 0, {0: Row(0b0111, 1, 0b100, (0, 1, 0, 0))}, 2),
-        block(_BOTH, 0, {0: Row(0b0111, 0, 0b110, (2, 1, 0, 0))}, 2),
-        block(_BOTH, 0, _LAST, 2),
-        block(_BOTH, 0, _LAST),
-        block(_BOTH, 0, _LAST, 1),
+        block(_FIRST, 0, _FRESH, 0, 0),
+        block(_BOTH, 0, _FRESH, 0, 1),
+        block(_BOTH, 0, {0: Row(0b0001, 1, 0b010, (0, 0, 0, 0))}, 2, 0),
+        block(_BOTH, 0, {0: Row(0b0011, 1, 0b000, (0, 1, 0, 0))}, 2, 0),
+        block(_BOTH, 0, {0: Row(0b0111, 1, 0b100, (0, 1, 0, 0))}, 2, 1),
+        block(_BOTH, 0, {0: Row(0b0111, 0, 0b110, (2, 1, 0, 0))}, 2, 0),
+        block(_BOTH, 0, _LAST, 2, 0),
+        block(_BOTH, 0, _LAST, 0, 2),
+        block(_BOTH, 0, _LAST, 1, 0),
     )
 )

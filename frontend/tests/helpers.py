@@ -12,16 +12,28 @@ import unittest
 from collections.abc import Callable
 from unittest import mock
 
-from frontend import cli, programs
+from frontend import cli, programs, tracefile
+from frontend.errors import MachineFailure
 from frontend.stepper import Row
 from frontend.tracefile import Step, Trace
 
 SH = "/bin/sh"
 MAIN = str(programs.ROOT / "frontend" / "__main__.py")
 
+
+def knows_cores() -> bool:
+    """Tell whether the lister in target/bin knows a write of selectors."""
+    data = tracefile.encode(Trace(1, 2, 0, (Step(0, tracefile.SELECT, 0),)))
+    try:
+        return programs.lister(data) == b"1 2 0 1\n0 select 0 0 0\n"
+    except MachineFailure:
+        return False
+
+
 needs_programs = unittest.skipIf(
-    any(programs.amiss(name) for name in programs.NAMES),
-    f"the programs are not in target/bin, or not up to date; 'rt check {' '.join(programs.NAMES)}' builds them",
+    any(programs.amiss(name) for name in programs.NAMES) or not knows_cores(),
+    "the programs are not in target/bin, not up to date, or of a time before the cores;"
+    f" 'rt check {' '.join(programs.NAMES)}' builds them",
 )
 needs_no_rights = unittest.skipIf(hasattr(os, "geteuid") and os.geteuid() == 0, "root may read and write every file")
 needs_full = unittest.skipUnless(os.path.exists("/dev/full"), "there is no /dev/full")
@@ -78,17 +90,25 @@ def random_trace(source: random.Random, count: int) -> Trace:
     def pick(bits: int, common: tuple[int, ...]) -> int:
         return source.choice(common) if source.random() < 0.7 else source.getrandbits(source.randint(1, bits))
 
-    steps = tuple(
-        Step(pick(8, (0, 1, 15, 16)), pick(8, (0, 1, 2, 3, 16)), pick(64, (0, 64, 0x30003, 1 << 32, (1 << 64) - 1)))
-        for _ in range(count)
-    )
+    kinds = (0, 1, 2, 3, 16, 32, 33, 34, 35, 40)
+    arguments = (0, 64, 0x30003, 0x0F0100, 0x100000, 1 << 24, 1 << 32, (1 << 64) - 1)
+    steps = tuple(Step(pick(8, (0, 1, 15, 16, 31, 32)), pick(8, kinds), pick(64, arguments)) for _ in range(count))
     return Trace(pick(8, (1, 64, 256)), pick(8, (2, 4, 8, 16)), pick(8, (0, 1, 2)), steps)
 
 
-def block(maps: dict[int, tuple[int, int]], place: int = 0, rows: dict[int, Row] | None = None, visited: int = 0) -> bytes:
-    """Write one block of a stepper stream."""
-    words = [word for domain in range(16) for word in maps.get(domain, (0, 0))]
-    data = struct.pack("<32H", *words) + struct.pack("<HHH", place, len(rows or {}), visited)
+def block(
+    maps: dict[int, tuple[int, int]],
+    place: int = 0,
+    rows: dict[int, Row] | None = None,
+    visited: int = 0,
+    domain: int = 65535,
+    records: dict[int, tuple[int, int, int]] | None = None,
+) -> bytes:
+    """Write one block of a stepper stream; without a domain, that of a step which was taken for none."""
+    words = [word for number in range(16) for word in maps.get(number, (0, 0))]
+    selectors = [selector for core in range(32) for selector in (records or {}).get(core, (0, 0, 0))]
+    data = struct.pack("<32H", *words) + bytes(selectors)
+    data += struct.pack("<HHHH", place, len(rows or {}), visited, domain)
     for number, row in (rows or {}).items():
         data += struct.pack(f"<HHHQ{len(row.tags)}Q", number, row.valid, row.dirty, row.word, *row.tags)
     return data

@@ -48,21 +48,21 @@ _LAST = _set(0b1111, 1, 0b10, 0, 5, 4, 3)
 STREAM = b"".join(
     (
         block({}, 0, _set(0, 0, 0, 0, 0, 0, 0)),
-        block(_OPEN, 0, _set(0, 0, 0, 0, 0, 0, 0)),
-        block(_OPEN, 0, _set(0b0001, 0, 0b0_1010, 0, 0, 0, 0), 4),
-        block(_OPEN, 0, _set(0b0011, 0, 0b0_0010, 0, 1, 0, 0), 4),
-        block(_OPEN, 0, _set(0b0111, 0, 0b1_0000, 0, 1, 2, 0), 4),
-        block(_OPEN, 0, _FILLED, 4),
-        block(_LOCKED, 0, _FILLED),
-        block(_LOCKED, 0, _USED, 2),
-        block(_LOCKED, 0, _USED, 4),  # a hit in the locked way 3
-        block(_LOCKED, 0, _set(0b1111, 0, 0, 0, 1, 4, 3), 4),
-        block(_LOCKED, 0, _set(0b1111, 1, 0, 0, 1, 4, 3), 1),  # a store in the locked way 0
-        block(_LOCKED, 0, _LAST, 4),
-        block(_LOCKED, 0, _LAST, 1),
-        block(_LOCKED, 0, _LAST, 4),
-        block(_BOTH, 0, _LAST),
-        block(_BOTH, 0, _LAST, 4),
-        block(_BOTH, 0, _LAST, 4),
+        block(_OPEN, 0, _set(0, 0, 0, 0, 0, 0, 0), 0, 3),
+        block(_OPEN, 0, _set(0b0001, 0, 0b0_1010, 0, 0, 0, 0), 4, 3),
+        block(_OPEN, 0, _set(0b0011, 0, 0b0_0010, 0, 1, 0, 0), 4, 3),
+        block(_OPEN, 0, _set(0b0111, 0, 0b1_0000, 0, 1, 2, 0), 4, 3),
+        block(_OPEN, 0, _FILLED, 4, 3),
+        block(_LOCKED, 0, _FILLED, 0, 3),
+        block(_LOCKED, 0, _USED, 2, 3),
+        block(_LOCKED, 0, _USED, 4, 3),  # a hit in the locked way 3
+        block(_LOCKED, 0, _set(0b1111, 0, 0, 0, 1, 4, 3), 4, 3),
+        block(_LOCKED, 0, _set(0b1111, 1, 0, 0, 1, 4, 3), 1, 3),  # a store in the locked way 0
+        block(_LOCKED, 0, _LAST, 4, 3),
+        block(_LOCKED, 0, _LAST, 1, 3),
+        block(_LOCKED, 0, _LAST, 4, 3),
+        block(_BOTH, 0, _LAST, 0, 4),
+        block(_BOTH, 0, _LAST, 4, 4),
+        block(_BOTH, 0, _LAST, 4, 4),
     )
 )

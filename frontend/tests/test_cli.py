@@ -90,7 +90,18 @@ class Help(InFolder):
         lines = [line for line in helptext.ASSEMBLE.splitlines() if line.startswith("  ")]
         text = "\n".join(line[:30] for line in lines).encode()
         self.assertEqual(call("assemble", "-", "-o", "-", stdin=text)[0], 0)
-        self.assertEqual(len(lines), 9)
+        self.assertEqual(len(lines), 12)
+        self.assertTrue(all(line[30:32] == "  " and line[32] != " " for line in lines), lines)
+
+    def test_help_says_what_cores_are(self):
+        for command, part in (
+            ("list", "the lister lends records for cores 0 to 31, whose selectors CS, DS and ES are zero at first"),
+            ("assemble", "CS is the domain of a core's fetches, DS of its loads and flushes, ES of its stores."),
+            ("explain", "by a core it is said first through which selector the step goes, and which domain that"),
+            ("isolate", "belongs to the domain that the core's selector names at that moment of the run,"),
+            ("isolate", "Where the core is not in the list it belongs to no domain and is kept, and so is every"),
+        ):
+            self.assertIn(part, " ".join(call(command, "--help")[1].decode().split()))
 
     def test_no_command(self):
         self.assert_bad((), "usage: dipperlock", "./dipperlock list examples/case-a.txt")
@@ -252,7 +263,8 @@ class Programs(InFolder):
 class Garbage(InFolder):
     """Bytes without sense never give a traceback."""
 
-    PIECES = b"", b"=", b"0x", b",", b"-", b"\n", b" ", b"#", b"\xff", b"\xc3\xa9", b"policy ", b"kind=", b"9" * 30
+    WORDS = b"policy ", b"kind=", b"core ", b"select ", b"9" * 30
+    PIECES = (b"", b"=", b"0x", b",", b"-", b"\n", b" ", b"#", b"\xff", b"\xc3\xa9", *WORDS)
 
     def test_binary(self):
         source = random.Random(5)
@@ -263,9 +275,9 @@ class Garbage(InFolder):
 
     def test_text(self):
         source = random.Random(6)
-        good = Path(CASE_A).read_bytes()
-        for _ in range(300):
-            data = bytearray(good)
+        good = Path(CASE_A).read_bytes(), (programs.ROOT / "examples" / "core-switch.txt").read_bytes()
+        for number in range(400):
+            data = bytearray(good[number % 2])
             for _ in range(source.randint(1, 6)):
                 place = source.randrange(len(data))
                 data[place : place + source.randint(0, 3)] = source.choice(self.PIECES)

@@ -31,18 +31,85 @@ class StepErrors(unittest.TestCase):
         self.check("256 load 0", 1, "'256' is too large; a domain goes from 0 to 255")
         self.check("  0x load 0", 3, "'0x' is not a number; a domain is written in decimal")
         self.check("-1 load 0", 1, "'-1' is not a number")
-        self.check("load 0x40", 1, "the domain is missing; a step starts with it, as in '0 load ...'")
-        self.check("kind=7 0x40", 1, "the domain is missing")
+        with_core = "or with a core, as in 'core 3 load ...'"
+        self.check("load 0x40", 1, f"the domain is missing; a step starts with it, as in '0 load ...', {with_core}\n")
+        self.check("kind=7 0x40", 1, "the domain is missing; a step starts with it, as in '0 kind=7 ...'\n")
+        self.check("policy arg=0", 1, "the domain is missing; a step starts with it, as in '0 policy ...'\n")
+        self.check("domain 3 load 0x40", 1, "a domain is named by its number alone; write it as in '0 load 0x40'")
+        self.check("domain=3", 1, "a domain is named by its number alone; write it as in '0 load 0x40'")
 
     def test_kind(self):
         kinds = "Kinds are fetch, load, store, flush, policy, kind=N"
         self.check("0 lod 0x40", 3, f"unknown kind 'lod'; did you mean 'load'? {kinds}")
         self.check("0 LOAD 0x40", 3, f"unknown kind 'LOAD'; did you mean 'load'? {kinds}")
         self.check("0 zzz 0x40", 3, f"unknown kind 'zzz'. {kinds}")
+        self.check("zzz load 0x40", 1, "'zzz' is not a number; a domain is written in decimal")
         self.check("0", 2, f"the step lacks its kind, as in '0 load 0x40'. {kinds}")
         self.check("0 kind=256 1", 8, "'256' is too large; a kind goes from 0 to 255")
         self.check("0 kind=x 1", 8, "'x' is not a number; a kind is")
         self.check("0 kind= 1", 8, "a number is missing; a kind is")
+
+    def test_core(self):
+        self.check("core 256 load 0", 6, "'256' is too large; a core goes from 0 to 255")
+        self.check("core x load 0", 6, "'x' is not a number; a core is written in decimal")
+        self.check("core -1 load 0", 6, "'-1' is not a number; a core is")
+        missing = "the core's number is missing; it follows 'core', as in 'core 3 load 0x40'"
+        for rest in ("", " # 3", " load 0x40", " select cs=0 ds=0 es=0", " kind=33 0", " policy arg=0"):
+            self.check(f"core{rest}", 1, missing)
+        for word in ("core3", "core=3", "core-3", "core:3"):
+            self.check(f"{word} load 0x40", 1, "the core's number stands apart from 'core'; write 'core 3'")
+            self.check(f"{word}", 1, "the core's number stands apart from 'core'; write 'core 3'")
+        self.check("select arg=0", 1, "the core is missing; the step starts with it, as in 'core 3 select ...'")
+        self.check("3 core load 0x40", 3, "'core' stands before the number; write it as in 'core 3 load 0x40'")
+        lines = "A line is 'sets N', 'ways N', 'rule NAME' or a step, 'DOMAIN KIND ARGUMENT' or 'core N KIND ARGUMENT'"
+        for word in ("Core", "cores", "cor", "CORE"):
+            self.check(f"{word} 3 load 0x40", 1, f"unknown word '{word}'; did you mean 'core'? {lines}")
+
+    def test_kind_of_a_core(self):
+        kinds = "Kinds of a core's step are fetch, load, store, flush, select"
+        self.check("core 3", 7, f"the step lacks its kind, as in 'core 3 load 0x40'. {kinds}")
+        self.check("core 3 lod 0x40", 8, f"unknown kind 'lod'; did you mean 'load'? {kinds}")
+        self.check("core 3 selct cs=0 ds=0 es=0", 8, f"unknown kind 'selct'; did you mean 'select'? {kinds}")
+        self.check("core 3 zzz 0x40", 8, f"unknown kind 'zzz'. {kinds}")
+        numbered = "a kind by its number has no 'core' before it; write it as in '3 kind=33 0x40'"
+        self.check("core 3 kind=33 0x40", 8, numbered)
+        policy = "only a domain has a policy; write it as in '0 policy hit=0,1 fill=0,1'"
+        self.check("core 3 policy hit=0,1 fill=0,1", 8, policy)
+        select = "only a core has selectors; write it as in 'core 3 select cs=0 ds=1 es=1'"
+        self.check("3 select cs=0 ds=1 es=1", 3, select)
+
+    def test_argument_of_a_core(self):
+        self.check("core 3 load", 12, "the step lacks its address, as in 'core 3 load 0x40'")
+        self.check("core 3 flush # 0x40", 13, "the step lacks its address, as in 'core 3 flush 0x40'")
+        self.check("core 3 fetch 0xg", 14, "'0xg' is not a number; an address is written in decimal")
+        self.check("core 3 store 18446744073709551616", 14, "'18446744073709551616' is too large; an address goes")
+        self.check("core 3 load 64 65", 16, "unexpected '65'; a load step has one address")
+
+    def test_selectors(self):
+        takes = "A select step takes cs=N, ds=N and es=N, or arg=NUMBER"
+        all_three = "it writes all three selectors, as in 'core 3 select cs=0 ds=1 es=1'"
+        self.check("core 3 select", 14, f"the step lacks cs=N, ds=N, es=N; {all_three}")
+        self.check("core 3 select cs=0 es=1", 24, f"the step lacks ds=N; {all_three}")
+        self.check("core 3 select ds=0", 19, f"the step lacks cs=N, es=N; {all_three}")
+        self.check("core 3 select cs=0 ds=1 es=1 cs=0", 30, f"'cs=' is given twice. {takes}")
+        self.check("core 3 select cs=0 ds=1 fs=1", 25, f"unknown field 'fs=1'. {takes}")
+        self.check("core 3 select CS=0 ds=1 es=1", 15, f"unknown field 'CS=0'; did you mean 'cs'? {takes}")
+        self.check("core 3 select cs=256 ds=1 es=1", 18, "'256' is too large; a selector goes from 0 to 255")
+        self.check("core 3 select cs=0 ds=-1 es=1", 23, "'-1' is not a number; a selector is written in decimal")
+        self.check("core 3 select cs=0 ds=1 es=", 28, "a number is missing; a selector is written in decimal")
+        self.check("core 3 select cs=0 ds=0,1 es=1", 23, "'0,1' is not a number; a selector is")
+        self.check("core 3 select cs ds=1 es=1", 15, "'cs' lacks its value; write 'cs=' and the value without a space")
+        whole = "write a whole argument as 'arg=0x1000000', and a selector with its name, such as cs=0"
+        self.check("core 3 select 0x1000000", 15, f"unexpected '0x1000000'; {whole}")
+        self.check("core 3 select cs=0 ds=1 es=1 arg=3", 15, f"arg= stands beside cs= or ds= or es=. {takes}")
+        self.check("core 3 select arg=0x1_0000_0000_0000_0000", 19, "'0x1_0000_0000_0000_0000' is too large")
+        self.check("core 3 select hit=0,1", 15, f"unknown field 'hit=0,1'. {takes}")
+
+    def test_every_wrong_selector_is_told(self):
+        told = report((HEADER + "core 256 select cs=256 ds=x es=\n").encode())
+        for place in ("6: '256' is too large; a core", "20: '256' is too large", "27: 'x' is not", "32: a number is"):
+            self.assertIn(f"case.txt:4:{place}", told)
+        self.assertTrue(told.endswith("\ncase.txt: 4 errors; no trace was made"), told)
 
     def test_argument(self):
         self.check("0 load", 7, "the step lacks its address, as in '0 load 0x40'")
@@ -212,6 +279,15 @@ class Layout(unittest.TestCase):
             f"0 policy {letters}=1",
             *(f"0 policy hit={word} fill=none" for word in (letters, digits, f"0x{digits}", f"0,{digits}", f"{'0' * long}3-1")),
             f"0 policy hit=way{digits} fill=none",
+            f"core{digits} load 0",
+            f"core {digits} load 0",
+            f"core {letters} load 0",
+            f"core 3 {letters} 0",
+            f"core 3 load {digits}",
+            f"core 3 kind={digits} 0",
+            f"core 3 select {letters}",
+            f"core 3 select {digits}",
+            f"core 3 select cs={digits} ds={letters} es=0x{digits}",
         ):
             told = report((HEADER + line + "\n").encode())
             self.assertLess(max(map(len, told.splitlines())), 320, told)

@@ -12,7 +12,7 @@ from frontend.paint import Paint
 from frontend.programs import ROOT
 from frontend.run import Run
 from frontend.stepper import Row
-from frontend.tests import case_a, locked_lines, true_lru
+from frontend.tests import case_a, core_switch, locked_lines, true_lru
 from frontend.tests.helpers import block, by_rote, call
 from frontend.tracefile import Step, Trace
 
@@ -125,7 +125,7 @@ class TrueLru(unittest.TestCase):
 
     def test_a_word_that_is_no_order(self):
         for word, written in ((0, "0x0000"), (0x3211, "0x3211"), (0x4321, "0x4321"), (0x1_0123, "0x1_0123")):
-            stream = block({}, 0, {0: Row(0, 0, word, (0,) * 4)}) + block({})
+            stream = block({}, 0, {0: Row(0, 0, word, (0,) * 4)}) + block({}, domain=3)
             story = told(Trace(1, 4, 2, (Step(3, 0, 0),)), b"1 4 2 1\n0 pass\n", stream)
             self.assertIn(f"\n     word   {written}  {written}\n", story)
             self.assertNotIn("oldest", story)
@@ -182,7 +182,7 @@ class Locked(unittest.TestCase):
     def said(self, rule: int, answer: str, then: dict[int, tuple[int, int]], now: dict[int, tuple[int, int]]) -> str:
         """Tell a step of domain 1 with the maps before and after it; give its answer in words."""
         step, rows = Step(1, 3 if answer.startswith("flush") else 1, 0), {0: Row(0b0100, 0, 0x0123, (0,) * 4)}
-        listed, stream = f"1 4 {rule} 1\n0 {answer}\n".encode(), block(then, 0, rows) + block(now, visited=1)
+        listed, stream = f"1 4 {rule} 1\n0 {answer}\n".encode(), block(then, 0, rows) + block(now, visited=1, domain=1)
         (told_of_it,) = told_of_each_step(Trace(1, 4, rule, (step,)), listed, stream)
         return told_of_it.partition(f" {answer} ")[2].partition(" The lookup visited ")[0]
 
@@ -214,9 +214,144 @@ class Locked(unittest.TestCase):
 
     def test_answers_that_no_lister_gives(self):
         for domain, way in ((1, 0), (1, 99), (1, 10**19), (2, 2), (16, 2), (255, 2)):
-            stream = block({1: (0b0100, 0)}, 0, {0: Row(0, 0, 0, (0,) * 4)}) + block({})
+            stream = block({1: (0b0100, 0)}, 0, {0: Row(0, 0, 0, (0,) * 4)}) + block({}, domain=domain)
             story = told(Trace(1, 4, 0, (Step(domain, 1, 0),)), f"1 4 0 1\n0 hit {way}\n".encode(), stream)
             self.assertIn(f"\n  A hit in way {way}.\n", story)
+
+
+class CoreSwitch(unittest.TestCase):
+    """The example of a core that works for one domain, then for another."""
+
+    TEXT = (ROOT / "examples" / "core-switch.txt").read_text(encoding="ascii")
+    TRACE = tracefile.decode(core_switch.FILE)
+
+    def steps(self) -> list[str]:
+        """Give what the text says of each step, without and with a comment."""
+        return [line for line in self.TEXT.splitlines() if line[:1].isdigit() or line.startswith("core")]
+
+    def story(self) -> str:
+        return told(self.TRACE, core_switch.LISTING, core_switch.STREAM)
+
+    def step(self, place: int) -> str:
+        return self.story().partition(f"\nstep {place} ")[2].partition("\n\n")[0]
+
+    def test_a_miss_where_the_neighbour_has_the_line(self):
+        expected = """\
+ core 3 loads at 0x40
+  Core 3 loads through DS, which names domain 2.
+  fill 2
+  A miss: way 2, which held no valid line, was filled.
+  The lookup visited 2 ways.
+     set 0  before                 after                     hit map   fill map
+     way 0  tag 1, dirty           tag 1, dirty              domain 1  domain 1
+     way 1  empty                  empty                     domain 1  domain 1
+  *  way 2  empty                  tag 1                     domain 2  domain 2
+     way 3  empty                  empty                     domain 2  domain 2
+  *  word   0x2 (right at node 1)  0x6 (right at nodes 1,2)"""
+        self.assertEqual(self.step(7), expected)
+
+    def test_writes_of_selectors(self):
+        first = "Accepted; changed CS from 0 to 1, DS from 0 to 1, ES from 0 to 1."
+        self.assertEqual(self.step(3), f" core 3 asks for CS 1, DS 1, ES 1\n  select 1 1 1\n  {first}")
+        last = "Accepted; changed CS from 2 to 1, DS from 2 to 1."
+        self.assertEqual(self.step(9), f" core 3 asks for CS 1, DS 1, ES 2\n  select 1 1 2\n  {last}")
+
+    def test_a_domain_without_ways(self):
+        route = "Core 3 loads through DS, which names domain 0."
+        self.assertIn(f"\n  {route}\n  refused 6\n  The hit map of domain 0 is empty: it has no ways.", self.step(2))
+        said = " ".join(self.step(2).split())
+        self.assertIn("or let DS of core 3 name a domain that has ways. domain 1 has hit map 0,1 and", said)
+        self.assertNotIn("way 0 ", said)
+
+    def test_refused(self):
+        listed = "Core 32 is not in the list: the lister lends records for cores 0 to 31. Name a core from 0 to 31."
+        self.assertEqual(self.step(15), f" core 32 loads at 0x40\n  refused 11\n  {listed}")
+        said, wrong = " ".join(self.step(16).split()), "DS would be 16, and a selector names a domain, 0 to 15."
+        self.assertTrue(said.startswith(f"core 3 asks for CS 1, DS 16, ES 1 refused 3 {wrong} Name a domain"), said)
+
+    def test_a_step_without_a_core(self):
+        self.assertIn("\nstep 13  domain 2 loads at 0x40\n  hit 2\n  A hit in way 2.\n", self.story())
+
+    def test_selectors_and_domains_are_those_that_the_text_says(self):
+        said = re.findall(r"^core .*# ([CDE]S).*?\bdomain ([0-9])", self.TEXT, re.MULTILINE)
+        self.assertEqual(said, re.findall(r"through ([CDE]S), which names domain ([0-9])\.", self.story()))
+        blocks = stepper.parse(core_switch.STREAM, self.TRACE)
+        for line, block in list(zip(self.steps(), blocks[1:]))[2:]:
+            named = re.search(r"# ([CDE]S.*?)?domain ([0-9])", line)
+            self.assertEqual(named and int(named[2]), block.domain, line)
+
+    def test_ways_are_those_that_the_text_says(self):
+        said = re.findall(r"#.*\b(fills|hits|evicts|flushes) way ([0-9])", self.TEXT)
+        words = {"fill": "fills", "hit": "hits", "evict": "evicts", "flush": "flushes"}
+        found = re.findall("(fill|hit|evict|flush) ([0-9])", core_switch.LISTING.decode())
+        self.assertEqual(said, [(words[word], way) for word, way in found])
+
+    def test_refusals_are_those_that_the_text_says(self):
+        said = [re.findall("refused [0-9]+", line) for line in self.steps()]
+        answers = [str(answer) for answer in listing.parse(core_switch.LISTING).answers]
+        self.assertEqual(said, [[answer] if answer.startswith("refused") else [] for answer in answers])
+        self.assertEqual([place for place, found in enumerate(said) if found], [2, 15, 16])
+
+
+class Cores(unittest.TestCase):
+    """What is told of steps by cores, from streams made by hand."""
+
+    FRESH = {0: Row(0b0101, 0, 0, (0, 0, 0, 0))}
+    MAPS = {1: (0b0011, 0b0011), 2: (0b1100, 0b1000)}
+    HELD = {3: (1, 2, 77)}
+
+    def said(self, step: Step, answer: str, domain: int = 65535, visited: int = 0, **changes) -> str:
+        """Tell one step after which a block has changed; give its lines, joined."""
+        after = {"visited": visited, "domain": domain, "records": self.HELD, **changes}
+        stream = block(self.MAPS, 0, self.FRESH, records=self.HELD) + block(self.MAPS, **after)
+        (told_of_it,) = told_of_each_step(Trace(1, 4, 0, (step,)), f"1 4 0 1\n0 {answer}\n".encode(), stream)
+        return told_of_it
+
+    def test_after_the_route_all_is_as_for_the_domain(self):
+        for answer in ("hit 3", "hit 2", "fill 3", "evict 2 9 1", "pass", "flush 2 1", "absent"):
+            kind, verb = (3, "flushes") if answer.startswith(("flush", "absent")) else (1, "loads")
+            by_core = self.said(Step(3, kind + 32, 64), answer, 2, 2)
+            by_domain = self.said(Step(2, kind, 64), answer, 2, 2)
+            route = f"Core 3 {verb} through DS, which names domain 2. "
+            self.assertEqual(by_core.partition(route)[2], by_domain[by_domain.index(answer) :])
+
+    def test_locked_lines_of_the_selected_domain(self):
+        self.assertIn("A hit in way 2. Its line is locked: the way is not", self.said(Step(3, 33, 0), "hit 2", 2, 1))
+        self.assertNotIn("locked", self.said(Step(3, 33, 0), "hit 3", 2, 2))
+        self.assertNotIn("locked", self.said(Step(3, 32, 0), "hit 0", 1, 1))
+
+    def test_a_selector_that_is_no_domain(self):
+        said = self.said(Step(3, 34, 64), "refused 3", 77)
+        self.assertIn("Core 3 stores through ES, which names domain 77. refused 3 ES of core 3 is 77, and", said)
+
+    def test_counts_that_are_full(self):
+        said = self.said(Step(3, 32, 64), "refused 7", 1)
+        self.assertIn("Core 3 fetches through CS, which names domain 1. refused 7 One of the counts of domain 1", said)
+        self.assertIn("domain 2 has hit map 2,3 and fill map way3", said)
+
+    def test_a_write_that_changes_nothing(self):
+        said = self.said(Step(3, 40, 0x4D_0201), "select 1 2 77")
+        self.assertTrue(said.endswith(" CS 1, DS 2, ES 77 select 1 2 77 Accepted; no selector changed."), said)
+
+    def test_a_write_of_one_selector(self):
+        said = self.said(Step(3, 40, 0x00_0201), "select 1 2 0", records={3: (1, 2, 0)})
+        self.assertTrue(said.endswith(" select 1 2 0 Accepted; changed ES from 77 to 0."), said)
+
+    def test_a_byte_above_the_selectors(self):
+        said = self.said(Step(3, 40, 0x100_0000), "refused 5")
+        self.assertIn("asks for the selectors of argument 0x100_0000 refused 5 A byte of the argument", said)
+
+    def test_answers_that_no_lister_gives(self):
+        for step, answer, domain in (
+            (Step(32, 33, 0), "hit 0", 65535),
+            (Step(255, 40, 0), "select 0 0 0", 65535),
+            (Step(3, 1, 0), "select 1 2 3", 3),
+            (Step(200, 1, 0), "select 1 2 3", 200),
+            (Step(32, 33, 0), "refused 6", 65535),
+            (Step(3, 40, 0), "hit 1", 65535),
+            (Step(3, 40, 0), "policy 1 1", 65535),
+        ):
+            self.assertIn(f" {answer} ", self.said(step, answer, domain))
 
 
 class Policies(unittest.TestCase):
@@ -230,7 +365,7 @@ class Policies(unittest.TestCase):
         full = {number: Row(1, 1, 2, (number + 1, 0)) for number in range(self.SETS)}
         empty = {number: Row(0, 0, 3, (0, 0)) for number in range(self.SETS)}
         trace = Trace(sets, 2, 1, (Step(0, 2, 0), Step(0, 16, 0)))
-        stream = fresh + block({0: (1, 1)}, 0, full) + block({}, 0, empty)
+        stream = fresh + block({0: (1, 1)}, 0, full, domain=0) + block({}, 0, empty, domain=0)
         return told(trace, b"8 2 1 2\n0 fill 0\n1 policy 7 7\n", stream, show_all=show_all).partition("\nstep 1")[2]
 
     def test_summary(self):
@@ -248,7 +383,7 @@ class Policies(unittest.TestCase):
         self.assertNotIn("--all", story)
 
     def test_way_of_two_domains(self):
-        stream = block({}, 0, {0: Row(0, 0, 0, (0, 0))}) + block({3: (1, 0), 12: (1, 1)})
+        stream = block({}, 0, {0: Row(0, 0, 0, (0, 0))}) + block({3: (1, 0), 12: (1, 1)}, domain=3)
         story = told(Trace(1, 2, 0, (Step(3, 0, 0),)), b"1 2 0 1\n0 pass\n", stream)
         self.assertRegex(story, r"way 0  empty +empty +- -> domain 3,12  - -> domain 12\n")
 

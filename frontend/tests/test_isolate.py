@@ -1,6 +1,7 @@
 """The comparison with the struck-out run, on listings made by hand."""
 from __future__ import annotations
 
+import re
 import unittest
 from dataclasses import replace
 
@@ -10,7 +11,7 @@ from frontend.errors import MachineFailure
 from frontend.paint import Paint
 from frontend.run import Run
 from frontend.stepper import Row
-from frontend.tests import true_lru
+from frontend.tests import core_switch, true_lru
 from frontend.tests.helpers import block, by_rote, call
 from frontend.tracefile import Step, Trace
 
@@ -50,19 +51,20 @@ domain 1 0 0 0 0 0
 """
 BOTH = {0: (1, 1), 1: (2, 2)}
 FRESH = block({}, 0, {0: Row(0, 0, 3, (0, 0))})
-MADE = block({0: (1, 1)}) + block(BOTH)
+MADE = block({0: (1, 1)}, domain=0) + block(BOTH, domain=1)
 WHOLE_STREAM = b"".join(
     (
         FRESH + MADE,
-        block(BOTH, 0, {0: Row(2, 0, 1, (0, 0))}, 1),
-        block(BOTH, 0, {0: Row(3, 0, 0, (0, 0))}, 1),
-        block(BOTH),
-        block(BOTH, 0, {0: Row(1, 0, 0, (0, 0))}, 1),
-        block(BOTH, 0, {0: Row(1, 0, 0, (1, 0))}, 1),
+        block(BOTH, 0, {0: Row(2, 0, 1, (0, 0))}, 1, 1),
+        block(BOTH, 0, {0: Row(3, 0, 0, (0, 0))}, 1, 0),
+        block(BOTH, domain=2),
+        block(BOTH, 0, {0: Row(1, 0, 0, (0, 0))}, 1, 1),
+        block(BOTH, 0, {0: Row(1, 0, 0, (1, 0))}, 1, 0),
     )
 )
-STRUCK_LAST = block(BOTH, 0, {0: Row(1, 0, 2, (1, 0))}, 1)
-STRUCK_STREAM = b"".join((FRESH + MADE, block(BOTH, 0, {0: Row(1, 0, 2, (0, 0))}, 1), block(BOTH), STRUCK_LAST))
+STRUCK_LAST = block(BOTH, 0, {0: Row(1, 0, 2, (1, 0))}, 1, 0)
+STRUCK_MID = block(BOTH, 0, {0: Row(1, 0, 2, (0, 0))}, 1, 0) + block(BOTH, domain=2)
+STRUCK_STREAM = FRESH + MADE + STRUCK_MID + STRUCK_LAST
 
 
 def run_of(trace: Trace, listed: bytes, stream: bytes) -> Run:
@@ -98,6 +100,8 @@ class Compare(unittest.TestCase):
         self.assertRegex(told, r"\n +0 +0 +asks for .* +policy 0 0 +policy 0 0\n")
         self.assertRegex(told, r"\n +6 +4 +loads at 0x40 +evict 0 0 0, 1 way visited +evict 0 0 0, 1 way visited\n")
         self.assertRegex(told, r"\n +line of the listing +domain 0 0 2 1 0 0 +domain 0 0 2 1 0 0\n")
+        self.assertRegex(told, r"\n +core records +0 of 32 not zero +0 of 32 not zero\n")
+        self.assertNotIn("by cores", told)
 
     def test_different_answer(self):
         listed = STRUCK_LISTING.replace(b"2 fill 0", b"2 hit 0").replace(b"4 evict 0 0 0", b"4 evict 0 0 1")
@@ -114,7 +118,7 @@ class Compare(unittest.TestCase):
         self.assertIn("\nNext difference: step 6 (4 in the struck-out run), domain 0 loads at 0x40: 'evict 0 0 0, 1", told)
 
     def test_different_number_of_ways_visited(self):
-        stream = STRUCK_STREAM[: -len(STRUCK_LAST)] + block(BOTH, 0, {0: Row(1, 0, 2, (1, 0))}, 2)
+        stream = STRUCK_STREAM[: -len(STRUCK_LAST)] + block(BOTH, 0, {0: Row(1, 0, 2, (1, 0))}, 2, 0)
         self.assertEqual([pair.places for pair in self.found(stream=stream).differences()], [(6, 4)])
         told = self.rendered(stream=stream)
         self.assertRegex(told, r"\n\* +6 +4 .* +evict 0 0 0, 1 way visited +evict 0 0 0, 2 ways visited +<- first difference\n")
@@ -126,13 +130,13 @@ class Compare(unittest.TestCase):
         )
 
     def test_a_lookup_in_one_run_alone(self):
-        stream = STRUCK_STREAM[: -len(STRUCK_LAST)] + block(BOTH, 0, {0: Row(1, 0, 2, (1, 0))})
+        stream = STRUCK_STREAM[: -len(STRUCK_LAST)] + block(BOTH, 0, {0: Row(1, 0, 2, (1, 0))}, 0, 0)
         first = self.found(stream=stream).differences()[0]
         self.assertEqual(first.seen, ("evict 0 0 0, 1 way visited", "evict 0 0 0"))
 
     def test_ways_visited_for_another_domain_may_differ(self):
-        fewer = block(BOTH, 0, {0: Row(2, 0, 1, (0, 0))}, 1)
-        more = block(BOTH, 0, {0: Row(2, 0, 1, (0, 0))}, 2)
+        fewer = block(BOTH, 0, {0: Row(2, 0, 1, (0, 0))}, 1, 1)
+        more = block(BOTH, 0, {0: Row(2, 0, 1, (0, 0))}, 2, 1)
         self.assertEqual(WHOLE_STREAM.count(fewer), 1)
         whole = run_of(WHOLE, WHOLE_LISTING, WHOLE_STREAM.replace(fewer, more))
         self.assertEqual(compare(whole, run_of(STRUCK, STRUCK_LISTING, STRUCK_STREAM), 0).differences(), [])
@@ -157,12 +161,12 @@ class Compare(unittest.TestCase):
         self.assertIn("First difference: at the end, line of the listing:", told)
 
     def test_different_line_in_its_way(self):
-        stream = STRUCK_STREAM[: -len(STRUCK_LAST)] + block(BOTH, 0, {0: Row(1, 1, 2, (1, 0))}, 1)
+        stream = STRUCK_STREAM[: -len(STRUCK_LAST)] + block(BOTH, 0, {0: Row(1, 1, 2, (1, 0))}, 1, 0)
         first = self.found(stream=stream).differences()[0]
         self.assertEqual((first.name, first.seen), ("set 0 way 0", ("tag 1", "tag 1, dirty")))
 
     def test_different_map(self):
-        stream = STRUCK_STREAM[: -len(STRUCK_LAST)] + block({0: (1, 0), 1: (2, 2)}, 0, {0: Row(1, 0, 2, (1, 0))}, 1)
+        stream = STRUCK_STREAM[: -len(STRUCK_LAST)] + block({0: (1, 0), 1: (2, 2)}, 0, {0: Row(1, 0, 2, (1, 0))}, 1, 0)
         first = self.found(stream=stream).differences()[0]
         self.assertEqual((first.name, first.seen), ("fill map", ("way0", "none")))
 
@@ -180,7 +184,7 @@ class Counted(unittest.TestCase):
         policy = Step(0, 16, 0x3_0003)
         fresh = {number: Row(0, 0, 0, (0, 0)) for number in range(self.SETS)}
         last = {number: Row(3, dirty, 0, (1, 2)) for number in range(self.SETS)}
-        stream = block({}, 0, fresh) + block({0: (3, 3)}, 0, last)
+        stream = block({}, 0, fresh) + block({0: (3, 3)}, 0, last, domain=0)
         listed = b"8 2 0 1\n0 policy 0 0\ndomain 0 0 0 0 0 0\n"
         return run_of(Trace(self.SETS, self.WAYS, 0, (policy,)), listed, stream)
 
@@ -204,7 +208,15 @@ class Counted(unittest.TestCase):
 
 def lines_of(steps: tuple[Step, ...]) -> bytes:
     """Write steps as the purger does."""
-    return "".join(f"{step.domain} {step.kind} {step.argument}\n" for step in steps).encode()
+    return "".join(f"{step.named} {step.kind} {step.argument}\n" for step in steps).encode()
+
+
+def refused_run(steps: tuple[Step, ...], *domains: int, records: dict[int, tuple[int, int, int]] | None = None) -> Run:
+    """Make a run in which every step was refused, and taken for a domain."""
+    listed = "".join(f"{place} refused 6\n" for place in range(len(steps)))
+    fresh = block({}, 0, {0: Row(0, 0, 0, (0, 0))}, records=records)
+    stream = fresh + b"".join(block({}, domain=domain, records=records) for domain in domains)
+    return run_of(Trace(1, 2, 0, steps), f"1 2 0 {len(steps)}\n{listed}".encode(), stream)
 
 
 class StruckOut(unittest.TestCase):
@@ -212,15 +224,48 @@ class StruckOut(unittest.TestCase):
 
     def refused(self, lines: bytes, domain: int = 0) -> str:
         with self.assertRaises(MachineFailure) as caught:
-            struck.kept(WHOLE, domain, lines)
+            struck.kept(WHOLE_RUN, domain, lines)
         return str(caught.exception)
 
     def test_the_struck_out_list(self):
-        self.assertEqual(struck.kept(WHOLE, 0, lines_of(STRUCK.steps)), STRUCK)
-        kinds = tuple(Step(domain, kind, 7) for domain in (0, 1, 16, 255) for kind in (0, 3, 4, 15, 16, 17, 255))
-        kept = tuple(step for step in kinds if step.domain == 1 or step.kind > 3)
-        self.assertEqual(struck.kept(Trace(1, 2, 0, kinds), 1, lines_of(kept)).steps, kept)
-        self.assertEqual(struck.kept(Trace(1, 2, 0, ()), 3, b"").steps, ())
+        self.assertEqual(struck.kept(WHOLE_RUN, 0, lines_of(STRUCK.steps)), STRUCK)
+        kinds = (0, 1, 2, 3, 4, 15, 16, 17, 31, 36, 39, 41, 255)
+        steps = tuple(Step(domain, kind, 7) for domain in (0, 1, 16, 255) for kind in kinds)
+        kept = tuple(step for step in steps if step.named == 1 or step.kind > 3)
+        whole = refused_run(steps, *(step.named for step in steps))
+        self.assertEqual(struck.kept(whole, 1, lines_of(kept)).steps, kept)
+        self.assertEqual(struck.kept(refused_run(()), 3, b"").steps, ())
+
+    def test_steps_by_cores(self):
+        records = {0: (1, 2, 3), 31: (2, 3, 1), 5: (16, 77, 255)}
+        accesses = tuple(Step(core, kind, 7) for core in (0, 31, 4, 5, 32, 255) for kind in (32, 33, 34, 35))
+        steps = (*accesses, *(Step(core, 40, 1 << 40) for core in (0, 1, 31, 32, 255)))
+        none = 65535
+        chosen = (1, 2, 3, 2, 2, 3, 1, 3, 0, 0, 0, 0, 16, 77, 255, 77, *[none] * 8, *[none] * 5)
+        whole = refused_run(steps, *chosen, records=records)
+        for domain, of_it in (
+            (0, (Step(4, 32, 7), Step(4, 33, 7), Step(4, 34, 7), Step(4, 35, 7))),
+            (1, (Step(0, 32, 7), Step(31, 34, 7))),
+            (2, (Step(0, 33, 7), Step(0, 35, 7), Step(31, 32, 7))),
+            (3, (Step(0, 34, 7), Step(31, 33, 7), Step(31, 35, 7))),
+            (15, ()),
+        ):
+            kept = tuple(step for step in steps if step in of_it or step.named > 31 or step.kind == 40)
+            self.assertEqual(len(kept), len(of_it) + 8 + 5)
+            self.assertEqual(struck.kept(whole, domain, lines_of(kept)).steps, kept)
+            with self.assertRaises(MachineFailure):
+                struck.kept(whole, domain, lines_of(tuple(step for step in kept if step.named < 32)))
+            with self.assertRaises(MachineFailure):
+                struck.kept(whole, domain, lines_of(steps))
+
+    def test_a_purger_that_strikes_by_the_core_number(self):
+        steps = Step(1, 33, 64), Step(0, 33, 64)  # core 0's DS is 1, and core 1's is 0
+        whole = refused_run(steps, 0, 1, records={0: (1, 1, 1)})
+        self.assertEqual(struck.kept(whole, 1, lines_of(steps[1:])).steps, steps[1:])
+        with self.assertRaises(MachineFailure) as caught:
+            struck.kept(whole, 1, lines_of(steps[:1]))
+        says = "its step 0 is 'core 1 load 0x40', and should be 'core 0 load 0x40'"
+        self.assertIn(f"struck-out list of domain 1: {says}", str(caught.exception))
 
     def test_a_purger_that_keeps_or_drops_too_much(self):
         says = "target/bin/purger did not give the struck-out list of domain 0: "
@@ -243,7 +288,7 @@ class StruckOut(unittest.TestCase):
             self.refused(good[:size])
         self.assertIn("it breaks off within line 5, '0 1 64'", self.refused(good[:-1]))
         for lines in (b"\n", b"0 1\n", b"0 1 +64\n", b"0 1 6_4\n", b"0  1 64\n", b"0 1 64 \n", b"0 1 64\r\n", b"\xff\n"):
-            self.assertIn("and should be a domain, a kind and an argument", self.refused(lines))
+            self.assertIn("and should be a domain or core, a kind and an argument", self.refused(lines))
 
 
 class Command(unittest.TestCase):
@@ -283,7 +328,7 @@ class Command(unittest.TestCase):
         self.assertIn(b"'0x0' in the whole run, '0x1' in the struck-out run", out)
 
     def test_ways_visited_that_differ(self):
-        stream = STRUCK_STREAM[: -len(STRUCK_LAST)] + block(BOTH, 0, {0: Row(1, 0, 2, (1, 0))}, 2)
+        stream = STRUCK_STREAM[: -len(STRUCK_LAST)] + block(BOTH, 0, {0: Row(1, 0, 2, (1, 0))}, 2, 0)
         status, out, err = self.isolate(STRUCK_LISTING, struck_stream=stream)
         self.assertEqual((status, err), (1, ""))
         self.assertIn(b"'evict 0 0 0, 1 way visited' in the whole run, 'evict 0 0 0, 2 ways visited' in the struck-out run", out)
@@ -358,6 +403,125 @@ class TrueLru(unittest.TestCase):
             (0, (0,) * 4, "none"),
         ):
             trace, listed = Trace(4, 2, 2, (Step(0, 16, 3 | fill << 16),)), b"4 2 2 1\n0 policy 0 0\ndomain 0 0 0 0 0 0\n"
-            run = replace(run_of(trace, listed, stream + block({0: (3, fill)})), own=own)
-            ending = compare(run, run, 0).endings[-1]
+            run = replace(run_of(trace, listed, stream + block({0: (3, fill)}, domain=0)), own=own)
+            ending = compare(run, run, 0).endings[-2]
             self.assertEqual((ending.name, ending.seen), ("own replacement data", (said, said)))
+
+
+class CoreSwitch(unittest.TestCase):
+    """The example of a core that switches, with programs that answer by rote."""
+
+    WHOLE = tracefile.decode(core_switch.FILE)
+    KEPT = tuple(step for place, step in enumerate(WHOLE.steps) if place not in core_switch.STRUCK_PLACES)
+
+    def isolate(
+        self,
+        kept: tuple[Step, ...] = KEPT,
+        listed: bytes = core_switch.STRUCK_LISTING,
+        stream: bytes = core_switch.STRUCK_STREAM,
+    ) -> tuple[int, str, str]:
+        struck_file = tracefile.encode(replace(self.WHOLE, steps=self.KEPT))
+        asked = tracefile.encode(Trace(1, 4, 0, (Step(3, 0, core_switch.WORD),)))
+        said = {
+            "lister": {core_switch.FILE: core_switch.LISTING, struck_file: listed}.__getitem__,
+            "stepper": {core_switch.FILE: core_switch.STREAM, struck_file: stream}.__getitem__,
+            "purger": lambda data, domain: {(core_switch.FILE, 1): lines_of(kept)}[data, domain],
+            "parts": {asked: core_switch.OWN}.__getitem__,
+        }
+        with by_rote(**said):
+            status, out, err = call("isolate", "-", "1", stdin=core_switch.FILE)
+        return status, out.decode(), err
+
+    def test_no_difference(self):
+        status, out, err = self.isolate()
+        self.assertEqual((status, err), (0, ""), out)
+        self.assertIn("No difference: domain 1 sees the same in both runs, ", out)
+        by_cores = "5 of them by cores whose selectors named such a domain"
+        self.assertIn(f"\nStruck out: 6 steps, the accesses and flushes of domains other than 1, {by_cores}\n", out)
+        self.assertIn("\nDomain 1 and the core records at the end\n", out)
+        self.assertRegex(out, r"\n +core records +1 of 32 not zero +1 of 32 not zero\n")
+
+    def test_steps_are_named_by_their_cores(self):
+        table = self.isolate()[1].partition("\nSteps of domain 1, ")[2].partition("\n\n")[0].splitlines()[2:]
+        rows = [re.split("  +", row.strip()) for row in table]
+        self.assertEqual(
+            [(int(places[0]), int(places[1]), said) for *places, said, _, _ in rows],
+            [
+                (0, 0, "asks for hit map 0,1 and fill map 0,1"),
+                (4, 3, "core 3 stores at 0x40"),
+                (5, 4, "core 3 loads at 0x40"),
+                (10, 7, "core 3 loads at 0x80"),
+                (12, 8, "core 3 flushes 0x40"),
+                (14, 9, "core 3 fetches at 0x80"),
+            ],
+        )
+        self.assertEqual(rows[3][3:], ["fill 1, 2 ways visited"] * 2)
+
+    def test_a_difference_in_a_step_by_a_core(self):
+        status, out, _ = self.isolate(listed=core_switch.STRUCK_LISTING.replace(b"\n9 hit 1", b"\n9 fill 0"))
+        self.assertEqual(status, 1)
+        seen = "'hit 1, 2 ways visited' in the whole run, 'fill 0, 2 ways visited' in the struck-out run."
+        self.assertIn(f"First difference: step 14 (9 in the struck-out run), core 3 fetches at 0x80: {seen}\n", out)
+
+    def test_other_answers_to_steps_of_no_domain(self):
+        listed = core_switch.STRUCK_LISTING.replace(b"10 refused 11", b"10 refused 12")
+        self.assertEqual(self.isolate(listed=listed)[0], 0)
+
+    def test_a_purger_that_goes_by_the_domains_that_steps_name(self):
+        kept = tuple(step for step in self.WHOLE.steps if step.named == 1 or step.kind > 3)
+        status, out, err = self.isolate(kept=kept)
+        self.assertEqual((status, out), (3, ""))
+        says = "its step 2 is 'core 3 load 0x40', and should be 'core 3 select cs=1 ds=1 es=1'"
+        self.assertEqual(err, f"dipperlock: target/bin/purger did not give the struck-out list of domain 1: {says}\n")
+
+    def test_a_purger_that_strikes_writes_of_selectors(self):
+        kept = tuple(step for step in self.KEPT if step.kind != 40)
+        status, out, err = self.isolate(kept=kept)
+        self.assertEqual((status, out), (3, ""))
+        self.assertIn("its step 2 is 'core 3 store 0x40', and should be 'core 3 select cs=1 ds=1 es=1'", err)
+
+    def test_a_purger_that_strikes_a_core_that_is_not_in_the_list(self):
+        status, out, err = self.isolate(kept=tuple(step for step in self.KEPT if step.named != 32))
+        self.assertEqual((status, out), (3, ""))
+        self.assertIn("its step 10 is 'core 3 select cs=1 ds=16 es=1', and should be 'core 32 load 0x40'", err)
+
+
+class Records(unittest.TestCase):
+    """The core records at the end of both runs."""
+
+    STEPS = (Step(3, 40, 0x030201), Step(4, 40, 0))
+
+    def run_of(self, *records: dict[int, tuple[int, int, int]]) -> Run:
+        fresh = block({}, 0, {0: Row(0, 0, 0, (0, 0))})
+        stream = fresh + b"".join(block({}, records=held) for held in records)
+        return run_of(Trace(1, 2, 0, self.STEPS), b"1 2 0 2\n0 select 1 2 3\n1 select 0 0 0\n", stream)
+
+    def endings(self, whole: Run, struck: Run) -> list[tuple[str, tuple[str, str]]]:
+        return [(ending.name, ending.seen) for ending in compare(whole, struck, 0).endings if "record" in ending.name]
+
+    def test_equal(self):
+        whole = self.run_of({3: (1, 2, 3)}, {3: (1, 2, 3)})
+        self.assertEqual(self.endings(whole, whole), [("core records", ("1 of 32 not zero",) * 2)])
+        whole = self.run_of({3: (1, 2, 3)}, {3: (1, 2, 3), 4: (0, 0, 1)})
+        self.assertEqual(self.endings(whole, whole), [("core records", ("2 of 32 not zero",) * 2)])
+
+    def test_different(self):
+        whole = self.run_of({3: (1, 2, 3)}, {3: (1, 2, 3)})
+        struck = self.run_of({3: (1, 2, 4)}, {3: (1, 2, 4), 4: (0, 7, 0)})
+        self.assertEqual(
+            self.endings(whole, struck),
+            [
+                ("record of core 3", ("CS 1, DS 2, ES 3", "CS 1, DS 2, ES 4")),
+                ("record of core 4", ("CS 0, DS 0, ES 0", "CS 0, DS 7, ES 0")),
+            ],
+        )
+        told = isolate.render("t.trace", 0, whole, struck, compare(whole, struck, 0), Paint(False))
+        self.assertRegex(told, r"\n\* +record of core 3 +CS 1, DS 2, ES 3 +CS 1, DS 2, ES 4 +<- first difference\n")
+        self.assertIn("First difference: at the end, record of core 3: 'CS 1, DS 2, ES 3' in the whole run, ", told)
+
+    def test_steps_that_belong_to_the_domain_in_one_run_alone(self):
+        steps = (Step(3, 33, 0),)
+        whole, other = refused_run(steps, 1, records={3: (0, 1, 0)}), refused_run(steps, 2, records={3: (0, 2, 0)})
+        with self.assertRaises(MachineFailure) as caught:
+            compare(whole, other, 1)
+        self.assertIn("the struck-out run does not have the steps that are compared", str(caught.exception))

@@ -1,13 +1,13 @@
-"""What the programs say, taken apart: listings and stepper streams."""
+"""What the programs say, taken apart: listings and stepper streams; and answers and refusals in words."""
 from __future__ import annotations
 
 import unittest
 
-from frontend import listing, stepper, tracefile, words
+from frontend import listing, refusals, stepper, text, tracefile, words
 from frontend.errors import MachineFailure
 from frontend.listing import Answer
 from frontend.stepper import Row
-from frontend.tests import case_a
+from frontend.tests import case_a, core_switch
 from frontend.tests.helpers import block
 from frontend.tracefile import Step, Trace
 
@@ -21,6 +21,18 @@ class Listings(unittest.TestCase):
         self.assertEqual(listed.answers[5], Answer("evict", (0, 0, 1)))
         self.assertEqual(" | ".join(map(str, listed.answers[6:])), "flush 1 0 | refused 6 | hit 0")
         self.assertEqual(listed.counts, {0: (1, 3, 1, 1, 1), 1: (0, 1, 0, 0, 0)})
+
+    def test_core_switch(self):
+        listed = listing.parse(core_switch.LISTING)
+        listing.check(listed, core_switch.FILE)
+        self.assertEqual(listed.answers[9], Answer("select", (1, 1, 2)))
+        self.assertEqual(" | ".join(map(str, listed.answers[14:])), "hit 1 | refused 11 | refused 3 | evict 3 2 1")
+        self.assertEqual(listed.counts, {1: (2, 2, 0, 1, 1), 2: (2, 3, 1, 1, 0)})
+
+    def test_a_core_is_no_domain_with_ways(self):
+        steps = Step(0, 16, 0x1_0001), Step(3, 40, 0x0F_0F0F), Step(7, 33, 0x1_0001)
+        data = tracefile.encode(Trace(1, 4, 0, steps))
+        listing.check(listing.parse(b"1 4 0 3\n0 policy 0 0\n1 select 15 15 15\n2 hit 0\ndomain 0 0 0 0 0 0\n"), data)
 
     def test_refused_files(self):
         for number in (1, 10):
@@ -38,6 +50,10 @@ class Listings(unittest.TestCase):
             b"1 4 0 1\n0 evict 0 0\n",
             b"1 4 0 1\n0  pass\n",
             b"1 4 0 1\n0 look 0\n",
+            b"1 4 0 1\n0 select\n",
+            b"1 4 0 1\n0 select 1 1\n",
+            b"1 4 0 1\n0 select 1 1 1 1\n",
+            b"1 4 0 1\n0 select cs=1 ds=1 es=1\n",
             b"1 4 0 1\n0 hit 00\n",
             b"1 4 0 0\nrealm 0 1 2 3 4 5\n",
             b"1 4 0 0\ndomain 0 1 2 3 4\n",
@@ -109,15 +125,36 @@ class Streams(unittest.TestCase):
         self.assertEqual(blocks[1].hit[:3], (3, 0, 0))
         self.assertEqual(blocks[2].fill[:3], (3, 12, 0))
         self.assertEqual([block.visited for block in blocks], [0, 0, 0, 2, 2, 2, 2, 2, 0, 1])
+        self.assertEqual([block.domain for block in blocks], [None, 0, 1, 0, 0, 1, 0, 0, 2, 0])
+        self.assertEqual({block.records for block in blocks}, {((0, 0, 0),) * 32})
         self.assertEqual(blocks[6].rows, {0: Row(7, 0, 6, (2, 1, 0, 0))})
         self.assertEqual(stepper.rows_at_end(blocks), {0: Row(5, 0, 6, (2, 1, 0, 0))})
+
+    def test_core_switch(self):
+        blocks = stepper.parse(core_switch.STREAM, tracefile.decode(core_switch.FILE))
+        domains = [None, 1, 2, 0, None, 1, 1, None, 2, 2, None, 1, 2, 1, 2, 1, None, None, 2]
+        self.assertEqual([block.domain for block in blocks], domains)
+        none, first, second, split = (0, 0, 0), (1, 1, 1), (2, 2, 2), (1, 1, 2)
+        due = [*[none] * 4, *[first] * 3, *[second] * 3, *[split] * 9]
+        self.assertEqual([block.records[3] for block in blocks], due)
+        self.assertEqual({block.records[core] for block in blocks for core in range(32) if core != 3}, {none})
+        visited = [0, 0, 0, 0, 0, 2, 1, 0, 2, 1, 0, 2, 2, 1, 1, 2, 0, 0, 2]
+        self.assertEqual([block.visited for block in blocks], visited)
+
+    def test_the_order_of_records(self):
+        selectors = {core: (3 * core, 3 * core + 1, 3 * core + 2) for core in range(32)}
+        data = block({15: (0xFFFF, 0xABCD)}, 0, {0: Row(0, 0, 0, (0, 0))}, records=selectors)
+        self.assertEqual(len(data), 64 + 96 + 8 + 14 + 16)
+        (fresh,) = stepper.parse(data, Trace(1, 2, 0, ()))
+        self.assertEqual((fresh.hit[15], fresh.fill[15], fresh.hit[14]), (0xFFFF, 0xABCD, 0))
+        self.assertEqual(fresh.records, tuple(selectors.values()))
 
     def test_streams_that_do_not_fit(self):
         trace = Trace(2, 2, 0, (Step(0, 1, 0),))
         rows = {0: Row(0, 0, 0, (0, 0)), 1: Row(0, 0, 0, (0, 0))}
-        fresh, after = block({}, 0, rows), block({}, 1, {1: Row(1, 0, 0, (9, (1 << 64) - 1))})
+        fresh, after = block({}, 0, rows), block({}, 1, {1: Row(1, 0, 0, (9, (1 << 64) - 1))}, domain=0)
         self.assertEqual(len(stepper.parse(fresh + after, trace)), 2)
-        self.assertEqual(stepper.parse(fresh + block({}, visited=2), trace)[1].visited, 2)
+        self.assertEqual(stepper.parse(fresh + block({}, visited=2, domain=0), trace)[1].visited, 2)
         for data, reason in (
             (b"", "breaks off within block 0 of 2"),
             (fresh, "breaks off within block 1 of 2"),
@@ -128,24 +165,75 @@ class Streams(unittest.TestCase):
             (fresh + block({}, 0, {7: rows[0]}), "not those of 2 sets"),
             (fresh + block({}, visited=3), "a lookup visited 3 ways, and the trace has 2 ways"),
             (block({}, 0, rows, 65535) + after, "a lookup visited 65,535 ways"),
+            (fresh + block({}), "step 0, '0 load 0x0', was taken for no domain, and should be for domain 0"),
+            (fresh + block({}, domain=1), "step 0, '0 load 0x0', was taken for domain 1, and should be for domain 0"),
+            (block({}, 0, rows, domain=0) + after, "it has domain 0 before the first step"),
         ):
-            with self.assertRaises(MachineFailure) as caught:
-                stepper.parse(data, trace)
-            self.assertIn(reason, str(caught.exception))
+            self.assert_misfit(data, trace, reason)
+
+    def test_a_stream_of_before_the_cores(self):
+        before = core_switch.STREAM[:64] + core_switch.STREAM[160:166]  # no records, and no domain
+        self.assert_misfit(before + bytes(14 + 8 * 4), Trace(1, 4, 0, ()), "it breaks off within block 0 of 1")
+
+    def assert_misfit(self, data: bytes, trace: Trace, reason: str) -> None:
+        with self.assertRaises(MachineFailure, msg=reason) as caught:
+            stepper.parse(data, trace)
+        self.assertIn("target/bin/stepper did not give a whole stream of this trace: ", str(caught.exception))
+        self.assertIn(reason, str(caught.exception))
+
+
+class Domains(unittest.TestCase):
+    """The domain that a step was taken for: the one that it names, or that its core's selector names."""
+
+    ROWS = {0: Row(0, 0, 0, (0, 0))}
+    HELD = {0: (4, 5, 6), 31: (7, 8, 9), 2: (77, 16, 255)}
+
+    def domain(self, step: Step, said: int, **changed: tuple[int, int, int]) -> int | None:
+        """Give the domain of a step after which a block says it; cores are changed by name, as `core31`."""
+        after = {**self.HELD, **{int(name[4:]): record for name, record in changed.items()}}
+        stream = block({}, 0, self.ROWS, records=self.HELD) + block({}, domain=said, records=after)
+        return stepper.parse(stream, Trace(1, 2, 0, (step,)))[1].domain
+
+    def assert_refused(self, step: Step, said: int, reason: str, **changed: tuple[int, int, int]) -> None:
+        with self.assertRaises(MachineFailure, msg=(step, said)) as caught:
+            self.domain(step, said, **changed)
+        self.assertIn(f"this trace: step 0, '{text.show_step(step)}', {reason}", str(caught.exception))
+
+    def test_by_selector(self):
+        for core, selectors in ((0, (4, 5, 6)), (31, (7, 8, 9)), (1, (0, 0, 0)), (2, (77, 16, 255))):
+            cs, ds, es = selectors
+            for kind, due in ((32, cs), (33, ds), (34, es), (35, ds)):
+                self.assertEqual(self.domain(Step(core, kind, 0), due), due)
+        self.assert_refused(Step(0, 33, 0), 4, "was taken for domain 4, and should be for domain 5")
+        self.assert_refused(Step(0, 34, 0), 5, "was taken for domain 5, and should be for domain 6")
+        self.assert_refused(Step(31, 35, 0), 65535, "was taken for no domain, and should be for domain 8")
+
+    def test_by_number(self):
+        for domain in (0, 3, 15, 16, 31, 32, 255):
+            for kind in (0, 1, 2, 3, 4, 16, 31, 36, 39, 41, 255):
+                self.assertEqual(self.domain(Step(domain, kind, 0), domain), domain)
+        self.assert_refused(Step(31, 36, 7), 8, "was taken for domain 8, and should be for domain 31")
+
+    def test_of_no_domain(self):
+        for core, kind in ((32, 32), (32, 33), (255, 34), (255, 35), (0, 40), (31, 40), (32, 40)):
+            self.assertIsNone(self.domain(Step(core, kind, 0), 65535))
+        self.assert_refused(Step(32, 33, 0), 32, "was taken for domain 32, and should be for no domain")
+        self.assert_refused(Step(0, 40, 0), 0, "was taken for domain 0, and should be for no domain")
+
+    def test_who_changes_a_record(self):
+        record = (1, 2, 3)
+        self.assertIsNone(self.domain(Step(31, 40, 0x030201), 65535, core31=record))
+        for named, kind, said in ((30, 40, 65535), (31, 33, 8), (31, 1, 31), (31, 16, 31), (32, 40, 65535)):
+            self.assert_refused(Step(named, kind, 0x030201), said, "changed the record of core 31", core31=record)
+        reason = "changed the record of core 0"
+        self.assert_refused(Step(31, 40, 0x030201), 65535, reason, core0=record, core31=record)
 
 
 class Words(unittest.TestCase):
     """Sentences for steps, answers and refusals."""
 
-    def test_every_refusal_has_a_reason_and_a_fix(self):
-        self.assertEqual(sorted(words.REFUSALS), list(range(1, 11)))
-        for number, refusal in words.REFUSALS.items():
-            self.assertTrue(refusal.why.endswith(".") and refusal.fix.endswith("."), number)
-            self.assertEqual(words.answer(Answer("refused", (number,))), f"{refusal.why} {refusal.fix}")
-
-    def test_numbers_and_words_of_no_document(self):
-        self.assertIn("Number 77", words.answer(Answer("refused", (77,))))
-        self.assertIn("not one of document 01's", words.answer(Answer("select", (1, 2, 3))))
+    def test_words_of_no_document(self):
+        self.assertIn("not one of document 01's", words.answer(Answer("look", (1, 2, 3))))
 
     def test_answers(self):
         for answer, part in (
@@ -166,7 +254,7 @@ class Words(unittest.TestCase):
             plain, locked = words.answer(answer), words.answer(answer, 0b1001)
             self.assertTrue(locked.startswith(f"{plain} I") and "locked" in locked, locked)
             self.assertEqual((words.answer(answer, 0b0111), words.answer(answer, 0)), (plain, plain))
-        for word, count in (("fill", 1), ("evict", 3), ("pass", 0), ("absent", 0), ("policy", 2), ("refused", 1)):
+        for word, count in (("fill", 1), ("evict", 3), ("pass", 0), ("absent", 0), ("policy", 2)):
             answer = Answer(word, (3,) * count)
             self.assertEqual(words.answer(answer, 0xFFFF), words.answer(answer))
 
@@ -180,19 +268,35 @@ class Words(unittest.TestCase):
             (Step(5, 16, 0), "domain 5 asks for two empty maps, to be removed"),
             (Step(6, 16, 1 << 40), "domain 6 asks for the policy of argument 0x100_0000_0000"),
             (Step(99, 7, 5), "domain 99 does kind 7 with argument 0x5"),
+            (Step(3, 32, 0), "core 3 fetches at 0x0"),
+            (Step(31, 33, 64), "core 31 loads at 0x40"),
+            (Step(32, 34, 64), "core 32 stores at 0x40"),
+            (Step(255, 35, 64), "core 255 flushes 0x40"),
+            (Step(3, 40, 0x020101), "core 3 asks for CS 1, DS 1, ES 2"),
+            (Step(3, 40, 0xFF0010), "core 3 asks for CS 16, DS 0, ES 255"),
+            (Step(3, 40, 0x100_0000), "core 3 asks for the selectors of argument 0x100_0000"),
+            (Step(9, 36, 5), "domain 9 does kind 36 with argument 0x5"),
         ):
             self.assertEqual(words.step(step), said)
+
+    def test_routes(self):
+        routes = "fetches through CS", "loads through DS", "stores through ES", "flushes through DS"
+        for kind, said in enumerate(routes, 32):
+            self.assertEqual(words.route(Step(3, kind, 64), 1), f"Core 3 {said}, which names domain 1.")
+
+    def test_which_selectors_changed(self):
+        for before, after, said in (
+            ((0, 0, 0), (0, 1, 1), "changed DS from 0 to 1, ES from 0 to 1."),
+            ((2, 3, 4), (5, 3, 4), "changed CS from 2 to 5."),
+            ((1, 2, 3), (15, 0, 2), "changed CS from 1 to 15, DS from 2 to 0, ES from 3 to 2."),
+            ((1, 1, 1), (1, 1, 1), "no selector changed."),
+            ((), (), "no selector changed."),
+        ):
+            self.assertEqual(words.selected(before, after), f"Accepted; {said}")
 
     def test_geometry(self):
         for rule, said in ((0, "rule 0 (Tree-PLRU)"), (1, "rule 1 (NRU)"), (2, "rule 2 (true LRU)"), (3, "rule 3")):
             self.assertEqual(words.geometry(Trace(1, 4, rule, ())), f"1 set, 4 ways, {said}")
-        self.assertIn("rule 0 (tree), 1 (nru) or 2 (lru).", words.refusal(1))
-
-    def test_how_many_sets(self):
-        self.assertIn("a number of sets that is a power of two, from 1 to 256 in a trace file;", words.refusal(1))
-        self.assertIn("more than 4,096 steps or more than 256 sets. ", words.refusal(10))
-        self.assertIn("a trace file holds at most 256 sets (calls of the proved library take up to 4,096).", words.refusal(10))
-
     def test_orders(self):
         for word, ways, said in (
             (0x2013, [0, 1, 2, 3], "oldest first 2 0 1 3"),
@@ -221,3 +325,76 @@ class Words(unittest.TestCase):
         row = Row(0b0011, 0b0010, 0, (5, 6, 7, 0))
         said = [words.line(row, way) for way in range(4)]
         self.assertEqual(said, ["tag 5", "tag 6, dirty", "tag 7, invalid", "empty"])
+
+
+class Refusals(unittest.TestCase):
+    """Why something is refused, and the fix."""
+
+    REMOVE = "Remove the domain by a policy with two empty maps, which zeroes its counts, and give it its maps anew."
+
+    def test_every_refusal_has_a_reason_and_a_fix(self):
+        self.assertEqual(sorted(refusals.REFUSALS), list(range(1, 12)))
+        for number, refusal in refusals.REFUSALS.items():
+            self.assertTrue(refusal.why.endswith(".") and refusal.fix.endswith("."), number)
+            self.assertEqual(refusals.of_number(number), f"{refusal.why} {refusal.fix}")
+
+    def test_a_number_of_no_document(self):
+        for step in (Step(0, 1, 0), Step(0, 33, 0), Step(0, 40, 0)):
+            self.assertEqual(refusals.of_step(77, step, 0), "Number 77 is not one of the documents'.")
+
+    def test_geometry(self):
+        self.assertIn("rule 0 (tree), 1 (nru) or 2 (lru).", refusals.of_number(1))
+
+    def test_how_many_sets(self):
+        self.assertIn("a number of sets that is a power of two, from 1 to 256 in a trace file;", refusals.of_number(1))
+        held = "a trace file holds at most 256 sets (calls of the proved library take up to 4,096)."
+        for part in ("more than 4,096 steps or more than 256 sets. ", held):
+            self.assertIn(part, refusals.of_number(10))
+
+    def test_kinds(self):
+        for number, name in (*tracefile.KINDS.items(), *tracefile.CORE_KINDS.items()):
+            self.assertIn(f" {number} ({name})", refusals.of_number(4))
+
+    def test_steps_that_name_a_domain(self):
+        for number in range(1, 12):
+            for kind in (0, 3, 16, 36, 255):
+                self.assertEqual(refusals.of_step(number, Step(3, kind, 0xFFFF_FFFF), 3), refusals.of_number(number))
+
+    def test_a_core_that_is_not_in_the_list(self):
+        for kind in (32, 33, 34, 35, 40):
+            said = refusals.of_step(11, Step(32, kind, 0x10), None)
+            listed = "Core 32 is not in the list: the lister lends records for cores 0 to 31."
+            self.assertEqual(said, f"{listed} Name a core from 0 to 31.")
+
+    def test_writes_of_selectors(self):
+        for argument, wrong in (
+            (0x10, "CS would be 16"),
+            (0xFF00, "DS would be 255"),
+            (0x20_0F10, "CS would be 16 and ES would be 32"),
+            (0xFF10_10_11, "CS would be 17 and DS would be 16 and ES would be 16"),
+            (0, "A selector would be 16 or more"),  # no lister refuses it so
+        ):
+            said = f"{wrong}, and a selector names a domain, 0 to 15. Name a domain from 0 to 15 by each of the three."
+            self.assertEqual(refusals.of_step(3, Step(3, 40, argument), None), said)
+        said = refusals.of_step(5, Step(3, 40, 0x100_0000), None)
+        self.assertIn("A byte of the argument other than the three selectors is not zero. Give CS, DS and ES", said)
+
+    def test_accesses_and_flushes_by_cores(self):
+        for kind, selector in ((32, "CS"), (33, "DS"), (34, "ES"), (35, "DS")):
+            step = Step(3, kind, 64)
+            self.assertEqual(
+                refusals.of_step(6, step, 1),
+                "The hit map of domain 1 is empty: it has no ways. "
+                f"Give it ways by a policy step first, or let {selector} of core 3 name a domain that has ways.",
+            )
+            full = "One of the counts of domain 1 is 4,294,967,295 and cannot rise."
+            self.assertEqual(refusals.of_step(7, step, 1), f"{full} {self.REMOVE}")
+            self.assertEqual(
+                refusals.of_step(3, step, 77),
+                f"{selector} of core 3 is 77, and a selector names a domain, 0 to 15. "
+                "Write the selectors of core 3 anew, each from 0 to 15.",
+            )
+            for number in (3, 6, 7):  # of a step that was taken for no domain; no lister refuses it so
+                self.assertEqual(refusals.of_step(number, step, None), refusals.of_number(number))
+            for number in (1, 2, 4, 5, 8, 9, 10):
+                self.assertEqual(refusals.of_step(number, step, 1), refusals.of_number(number))

@@ -5,9 +5,10 @@ import re
 import unittest
 
 from frontend import __main__ as entry
-from frontend import tracefile
+from frontend import listing, stepper, text, tracefile, words
+from frontend.assembler import assemble
 from frontend.programs import ROOT
-from frontend.tests import case_a
+from frontend.tests import case_a, core_switch
 
 README = (ROOT / "README.md").read_text(encoding="utf-8")
 LINK = re.compile(r"\]\(([^)#]+)")
@@ -30,6 +31,11 @@ class Readme(unittest.TestCase):
     def test_the_worked_example(self):
         self.assertIn("".join(f"    {line}\n" for line in case_a.LISTING.decode().splitlines()), README)
 
+    def test_every_word_of_a_listing_is_named(self):
+        for word, count in listing._FIELDS.items():
+            (numbers,) = re.findall(rf"\n\| `{word}` \| ([^|]*?) ?\|", README)
+            self.assertEqual(len([number for number in numbers.split(", ") if number]), count, word)
+
     def test_every_rule_is_named(self):
         for name in tracefile.RULES.values():
             self.assertIn(f"`{name}`", README)
@@ -45,3 +51,39 @@ class Readme(unittest.TestCase):
     def test_how_the_other_parts_are_tested(self):
         self.assertIn("cargo test --manifest-path reference/Cargo.toml", README)
         self.assertTrue((ROOT / "reference" / "Cargo.toml").is_file())
+
+
+class CoresAndSelectors(unittest.TestCase):
+    """The section on cores, which quotes an example."""
+
+    SECTION = README.partition("\n## Cores and selectors\n")[2].partition("\n## ")[0]
+    LINES = [line[4:] for line in SECTION.splitlines() if line.startswith("    ")]
+    TRACE = tracefile.decode(core_switch.FILE)
+
+    def test_the_lines_are_those_of_the_example(self):
+        quoted = "\n".join(line for line in self.LINES if line.startswith("core")) + "\n"
+        self.assertIn(quoted, (ROOT / "examples" / "core-switch.txt").read_text(encoding="ascii"))
+        self.assertEqual(quoted.splitlines()[0].split("  ")[0], text.show_step(self.TRACE.steps[6]))
+
+    def test_the_listing_is_that_of_the_example(self):
+        quoted = "\n".join(line for line in self.LINES if line[0].isdigit()) + "\n"
+        self.assertIn(f"\n{quoted}", core_switch.LISTING.decode())
+        self.assertTrue(quoted.startswith("6 select 2 2 2\n"))
+
+    def test_what_explain_says(self):
+        blocks = stepper.parse(core_switch.STREAM, self.TRACE)
+        self.assertIn(f"of step 7: `{words.route(self.TRACE.steps[7], blocks[8].domain)}`", self.SECTION)
+        changed = words.selected(blocks[9].records[3], blocks[10].records[3])
+        self.assertIn(f"of step 9: `{changed}`", self.SECTION)
+
+    def test_what_is_struck_out(self):
+        said = "`isolate` strikes out steps 7, 8 and 11 for domain 1, whose own is step 10."
+        self.assertIn(said, " ".join(self.SECTION.split()))
+        domains = [block.domain for block in stepper.parse(core_switch.STREAM, self.TRACE)[1:]]
+        self.assertEqual([place for place in range(6, 12) if place in core_switch.STRUCK_PLACES], [7, 8, 11])
+        self.assertEqual(domains[10], 1)
+
+    def test_the_text_form(self):
+        for written in re.findall(r"`(core [0-9][^`]*)`", README):
+            (step,) = assemble("one", f"sets 1\nways 4\nrule tree\n{written}".encode()).steps
+            self.assertEqual(text.show_step(step), written)

@@ -4,10 +4,10 @@ from __future__ import annotations
 import random
 import unittest
 
-from frontend import maps, numbers, text, tracefile
+from frontend import cores, maps, numbers, text, tracefile
 from frontend.assembler import assemble
 from frontend.programs import ROOT
-from frontend.tests import case_a, locked_lines, true_lru
+from frontend.tests import case_a, core_switch, locked_lines, true_lru
 from frontend.tests.helpers import random_file, random_trace
 from frontend.tracefile import Step, Trace
 
@@ -41,6 +41,19 @@ class RoundTrip(unittest.TestCase):
             steps = tuple(Step(number, 255 - number, argument) for number in range(256))
             self.there_and_back(tracefile.encode(Trace(0, 255, 7, steps)))
 
+    def test_every_kind_of_a_core(self):
+        for kind in (32, 33, 34, 35, 40):
+            for argument in (0, 64, 0x02_0101, 0xFF_FFFF, 0x100_0000, 0x100_0203, (1 << 64) - 1):
+                steps = tuple(Step(core, kind, argument) for core in range(256))
+                self.there_and_back(tracefile.encode(Trace(1, 4, 0, steps)))
+
+    def test_selectors_all_over(self):
+        source = random.Random(16)
+        steps = [Step(3, 40, number << 8 * place) for place in range(3) for number in range(256)]
+        steps += [Step(31, 40, source.getrandbits(24)) for _ in range(1000)]
+        steps += [Step(32, 40, source.getrandbits(64)) for _ in range(1000)]
+        self.there_and_back(tracefile.encode(Trace(1, 4, 0, tuple(steps))))
+
     def test_maps_all_over(self):
         steps = tuple(Step(1, 16, word | (word * 3 & 0xFFFF) << 16) for word in range(0, 1 << 16, 17))
         self.there_and_back(tracefile.encode(Trace(1, 16, 1, steps)))
@@ -68,6 +81,10 @@ class Forms(unittest.TestCase):
         source = (ROOT / "examples" / "locked-lines.txt").read_bytes()
         self.assertEqual(tracefile.encode(assemble("locked-lines.txt", source)), locked_lines.FILE)
 
+    def test_core_switch(self):
+        source = (ROOT / "examples" / "core-switch.txt").read_bytes()
+        self.assertEqual(tracefile.encode(assemble("core-switch.txt", source)), core_switch.FILE)
+
     def test_canonical_text(self):
         shown = text.show(tracefile.decode(case_a.FILE))
         expected = "0 policy hit=0,1 fill=0,1\n1 policy hit=2,3 fill=2,3\n0 store 0x0\n0 load 0x40\n"
@@ -82,6 +99,41 @@ class Forms(unittest.TestCase):
         shown = text.show(Trace(1, 4, 1, steps))
         expected = "rule nru\n\n7 kind=9 0x123\n0 policy arg=0x1_0000_0003\n200 fetch 0x8000_0000_0000_0000\n"
         self.assertTrue(shown.endswith(expected), shown)
+
+    def test_steps_of_cores_are_shown_by_name(self):
+        for step, line in (
+            (Step(3, 32, 64), "core 3 fetch 0x40"),
+            (Step(0, 33, 0), "core 0 load 0x0"),
+            (Step(32, 34, 1 << 32), "core 32 store 0x1_0000_0000"),
+            (Step(255, 35, 64), "core 255 flush 0x40"),
+            (Step(3, 40, 0x020100), "core 3 select cs=0 ds=1 es=2"),
+            (Step(3, 40, 0xFF0010), "core 3 select cs=16 ds=0 es=255"),
+            (Step(3, 40, 0x100_0000), "core 3 select arg=0x100_0000"),
+            (Step(3, 40, 0x1_0002_0100), "core 3 select arg=0x1_0002_0100"),
+            (Step(3, 36, 64), "3 kind=36 0x40"),
+            (Step(3, 39, 64), "3 kind=39 0x40"),
+            (Step(3, 41, 64), "3 kind=41 0x40"),
+        ):
+            self.assertEqual(text.show_step(step), line)
+            self.assertEqual(steps_of(line), (step,))
+
+    def test_steps_of_cores(self):
+        lines = "core 3 fetch 0\ncore 0 load 64\ncore 0x1f store 0x80\ncore 255 flush 0b11\n\tcore  1\tload 1_000 #\n"
+        expected = (Step(3, 32, 0), Step(0, 33, 64), Step(31, 34, 128), Step(255, 35, 3), Step(1, 33, 1000))
+        self.assertEqual(steps_of(lines), expected)
+        self.assertEqual(steps_of("3 kind=33 0x40\n3 kind=40 0x20101\n"), (Step(3, 33, 64), Step(3, 40, 0x020101)))
+
+    def test_selectors(self):
+        for written, argument in (
+            ("cs=0 ds=1 es=1", 0x01_0100),
+            ("es=3 cs=1 ds=2", 0x03_0201),
+            ("ds=0x0f es=0b1 cs=15", 0x01_0F0F),
+            ("cs=16 ds=255 es=200", 0xC8_FF10),
+            ("arg=0", 0),
+            ("arg=0x1_0000_0000_0000", 1 << 48),
+            ("arg=18446744073709551615", (1 << 64) - 1),
+        ):
+            self.assertEqual(steps_of(f"core 3 select {written}\n"), (Step(3, 40, argument),), written)
 
     def test_kinds(self):
         lines = "0 fetch 0\n1 load 64\n2 store 0x80\n3 flush 0b11\n4 kind=16 7\n5 kind=0x20 1_000\n"
@@ -146,3 +198,12 @@ class Parts(unittest.TestCase):
             self.assertEqual(maps.parse(maps.write(word)), word)
         written = ["none", "way0", "way3", "0,1", "0-2", "0-2,4,5"]
         self.assertEqual([maps.write(word) for word in (0, 1, 8, 3, 7, 0b110111)], written)
+
+    def test_selectors(self):
+        for selectors, argument in (((0, 0, 0), 0), ((1, 2, 3), 0x030201), ((255, 0, 16), 0x1000FF)):
+            self.assertEqual((cores.join(selectors), cores.split(argument)), (argument, selectors))
+        self.assertIsNone(cores.split(0x100_0000))
+        self.assertEqual(cores.lowest(0x904_0302_0100), (0, 1, 2))
+        self.assertEqual(cores.write((0, 1, 15)), "CS 0, DS 1, ES 15")
+        for kind, place in ((32, 0), (33, 1), (34, 2), (35, 1), (40, None), (0, None), (16, None), (36, None)):
+            self.assertEqual(cores.place(Step(0, kind, 0)), place)

@@ -8,13 +8,14 @@ import shlex
 import subprocess
 import tempfile
 import unittest
+from dataclasses import replace
 from pathlib import Path
 
-from frontend import helptext, listing, maps, programs, run, stepper, struck, tracefile, words
+from frontend import cores, crates, helptext, listing, maps, programs, run, stepper, struck, tracefile, words
 from frontend.explain import Explainer
 from frontend.paint import Paint
-from frontend.tests import case_a, locked_lines, true_lru
-from frontend.tests.helpers import call, needs_programs, random_trace, start
+from frontend.tests import case_a, core_switch, locked_lines, true_lru
+from frontend.tests.helpers import call, knows_cores, needs_programs, random_trace, start
 from frontend.tracefile import Step, Trace
 
 EXAMPLES = sorted((programs.ROOT / "examples").glob("*.txt"))
@@ -24,14 +25,16 @@ def busy_trace(
     source: random.Random, count: int, rules: tuple[int, ...] = (0, 1, 2), tops: tuple[int, ...] = (63, 255, 1023)
 ) -> Trace:
     """Make a trace within the limits that has steps of every kind; `tops` are the highest lines, and low ones are hit often."""
-    ways, domains = source.choice((2, 4, 8, 16)), (0, 1, 15)
+    ways = source.choice((2, 4, 8, 16))
     steps = []
     for _ in range(count):
         word = source.getrandbits(ways) & source.getrandbits(ways)
-        argument = word | (word & source.getrandbits(ways)) << 16
-        kind = source.choice((0, 1, 1, 2, 2, 3, 16))
+        policy = word | (word & source.getrandbits(ways)) << 16
+        selectors = cores.join(tuple(source.choice((0, 0, 1, 1, 15, 15, 16)) for _ in cores.SELECTORS))
+        kind = source.choice((0, 1, 1, 2, 2, 3, 16, 16, 32, 33, 33, 34, 34, 35, 40))
         address = source.randint(0, source.choice(tops)) * 64
-        steps.append(Step(source.choice(domains), kind, argument if kind == 16 else address))
+        argument = {16: policy, 40: selectors | (source.random() < 0.1) << 24}.get(kind, address)
+        steps.append(Step(source.choice((0, 3, 31, 32) if kind >= 32 else (0, 1, 15)), kind, argument))
     return Trace(source.choice((1, 2, 4, 256)), ways, source.choice(rules), tuple(steps))
 
 
@@ -57,9 +60,9 @@ class CaseA(unittest.TestCase):
         self.assertEqual(programs.stepper(case_a.FILE), case_a.STREAM)
 
     def test_purge(self):
-        trace = tracefile.decode(case_a.FILE)
-        kept = struck.kept(trace, 0, programs.purger(case_a.FILE, 0)).steps
-        self.assertEqual(kept, tuple(step for place, step in enumerate(trace.steps) if place not in (4, 7)))
+        whole = run.take("case A", case_a.FILE)
+        kept = struck.kept(whole, 0, programs.purger(case_a.FILE, 0)).steps
+        self.assertEqual(kept, tuple(step for place, step in enumerate(whole.trace.steps) if place not in (4, 7)))
 
     def test_limits(self):
         many = (Step(0, 0, 0),) * 4096
@@ -95,9 +98,9 @@ class TrueLru(unittest.TestCase):
         self.assertEqual(programs.stepper(true_lru.FILE), true_lru.STREAM)
 
     def test_struck_out_run(self):
-        trace = tracefile.decode(true_lru.FILE)
-        kept = struck.kept(trace, 0, programs.purger(true_lru.FILE, 0))
-        self.assertEqual(len(kept.steps), len(trace.steps) - len(true_lru.STRUCK_PLACES))
+        whole = run.take("true LRU", true_lru.FILE)
+        kept = struck.kept(whole, 0, programs.purger(true_lru.FILE, 0))
+        self.assertEqual(len(kept.steps), len(whole.trace.steps) - len(true_lru.STRUCK_PLACES))
         data = tracefile.encode(kept)
         self.assertEqual((programs.lister(data), programs.stepper(data)), (true_lru.STRUCK_LISTING, true_lru.STRUCK_STREAM))
 
@@ -170,6 +173,128 @@ class LockedLines(unittest.TestCase):
                 if found:
                     seen.add((rule, answer.word, locked))
         self.assertEqual(len(seen), 12)  # under each rule a hit and a flush, locked and not
+
+
+@unittest.skipIf(programs.amiss("lister"), "target/bin/lister is missing or not up to date")
+class Skipped(unittest.TestCase):
+    """The tests here are skipped where the lister knows no cores. It has to know them where its sources do."""
+
+    def test_a_lister_of_sources_with_cores_knows_them(self):
+        needed = crates._needed(crates._listed(programs.ROOT), "lister")
+        self.assertTrue(knows_cores() or "cores" not in needed)
+
+
+@needs_programs
+class CoreSwitch(unittest.TestCase):
+    """The example of a core that switches, in both runs."""
+
+    EXAMPLE = str(programs.ROOT / "examples" / "core-switch.txt")
+
+    def test_whole_run(self):
+        self.assertEqual(call("list", self.EXAMPLE), (0, core_switch.LISTING, ""))
+        self.assertEqual(programs.stepper(core_switch.FILE), core_switch.STREAM)
+
+    def test_struck_out_run(self):
+        whole = run.take("core switch", core_switch.FILE)
+        kept = struck.kept(whole, 1, programs.purger(core_switch.FILE, 1))
+        due = tuple(step for place, step in enumerate(whole.trace.steps) if place not in core_switch.STRUCK_PLACES)
+        self.assertEqual(kept.steps, due)
+        data = tracefile.encode(kept)
+        self.assertEqual(programs.lister(data), core_switch.STRUCK_LISTING)
+        self.assertEqual(programs.stepper(data), core_switch.STRUCK_STREAM)
+
+    def test_isolate(self):
+        for domain, gone, by_core in (("0", 10, 9), ("1", 6, 5), ("2", 6, 6), ("3", 11, 10)):
+            status, out, err = call("isolate", self.EXAMPLE, domain)
+            self.assertEqual((status, err), (0, ""), out)
+            said = f"{gone} steps, the accesses and flushes of domains other than {domain}, {by_core} of them by cores"
+            self.assertIn(f"\nStruck out: {said}", out.decode())
+            self.assertRegex(out.decode(), r"\n +core records +1 of 32 not zero +1 of 32 not zero\n")
+
+    def test_explain(self):
+        status, out, _ = call("explain", self.EXAMPLE)
+        self.assertEqual(status, 0)
+        self.assertIn("\n  Core 3 loads through DS, which names domain 2.\n  fill 2\n", out.decode())
+        self.assertIn("\n  select 1 1 2\n  Accepted; changed CS from 2 to 1, DS from 2 to 1.\n", out.decode())
+
+
+@needs_programs
+class Cores(unittest.TestCase):
+    """Steps by cores and writes of selectors, in the listing and in the stream."""
+
+    def answers(self, *steps: Step) -> list[str]:
+        """Give the answers to some steps on a cache whose domain 1 has all ways."""
+        trace = Trace(1, 4, 0, (Step(1, 16, 0xF_000F), *steps))
+        return [str(answer) for answer in run.take("steps", tracefile.encode(trace)).listing.answers[1:]]
+
+    def test_writes_of_selectors(self):
+        for core, argument, answer in (
+            (0, 0, "select 0 0 0"),
+            (31, 0x0F0E0D, "select 13 14 15"),
+            (31, 0x0F0F10, "refused 3"),
+            (31, 0x0F100F, "refused 3"),
+            (31, 0x100F0F, "refused 3"),
+            (31, 0x100_0000, "refused 5"),
+            (31, 1 << 63, "refused 5"),
+            (31, 0x100_0010, "refused 3"),
+            (32, 0, "refused 11"),
+            (32, 0x100_0010, "refused 11"),
+            (255, 0, "refused 11"),
+        ):
+            self.assertEqual(self.answers(Step(core, 40, argument)), [answer], (core, hex(argument)))
+
+    def test_accesses_and_flushes(self):
+        select = Step(31, 40, 0x010101)
+        answers = self.answers(select, *(Step(31, kind, 64) for kind in (32, 33, 34, 35, 35)))
+        self.assertEqual(answers[1:], ["fill 0", "hit 0", "hit 0", "flush 0 1", "absent"])
+        for kind in (32, 33, 34, 35):
+            self.assertEqual(self.answers(Step(31, kind, 64)), ["refused 6"])  # domain 0 has no ways
+            self.assertEqual(self.answers(Step(16, kind, 64)), ["refused 6"])  # and core 16 is no domain
+            self.assertEqual(self.answers(Step(32, kind, 64)), ["refused 11"])
+
+    def test_which_selector(self):
+        for kind, argument in ((32, 0x000001), (33, 0x000100), (34, 0x010000), (35, 0x000100)):
+            for selectors in (0x000001, 0x000100, 0x010000):
+                answer = self.answers(Step(3, 40, selectors), Step(3, kind, 64))[1]
+                due = {35: "absent"}.get(kind, "fill 0") if selectors == argument else "refused 6"
+                self.assertEqual(answer, due, (kind, hex(selectors)))
+
+    def test_kinds_beside_them_are_unknown(self):
+        for kind in (31, 36, 37, 38, 39, 41):
+            self.assertEqual(self.answers(Step(15, kind, 0), Step(16, kind, 0)), ["refused 4", "refused 3"])
+
+    def test_a_step_by_a_core_is_the_step_of_its_domain(self):
+        source, seen = random.Random(17), set()
+        for _ in range(12):
+            taken = run.take("random", tracefile.encode(busy_trace(source, 300, tops=(3, 63))))
+            plain, due = [], []
+            for place, (step, answer) in enumerate(zip(taken.trace.steps, taken.listing.answers)):
+                domain = taken.domain(place)
+                if domain is not None:
+                    plain.append(Step(domain, step.kind - 32, step.argument) if step.by_core else step)
+                    due.append(answer)
+                    seen.add((step.kind, answer.word))
+            again = run.take("plain", tracefile.encode(replace(taken.trace, steps=tuple(plain))))
+            self.assertEqual(list(again.listing.answers), due)
+            self.assertEqual(again.listing.counts, taken.listing.counts)
+            self.assertEqual(stepper.rows_at_end(again.blocks), stepper.rows_at_end(taken.blocks))
+        found = {(kind, word) for kind in (32, 33, 34) for word in ("hit", "fill", "evict", "pass", "refused")}
+        self.assertLessEqual(found | {(35, "flush"), (35, "absent")}, seen)
+
+    def test_records_are_what_was_selected(self):
+        source, words_seen = random.Random(18), set()
+        for _ in range(12):
+            taken = run.take("random", tracefile.encode(busy_trace(source, 200)))
+            records = [(0, 0, 0)] * 32
+            self.assertEqual(taken.blocks[0].records, tuple(records))
+            for step, answer, block in zip(taken.trace.steps, taken.listing.answers, taken.blocks[1:]):
+                if answer.word == "select":
+                    self.assertEqual((step.kind, cores.split(step.argument)), (40, answer.fields))
+                    records[step.named] = answer.fields
+                if step.kind == 40:
+                    words_seen.add(str(answer) if answer.word == "refused" else answer.word)
+                self.assertEqual(block.records, tuple(records))
+        self.assertEqual(words_seen, {"select", "refused 3", "refused 5", "refused 11"})
 
 
 @needs_programs
@@ -271,7 +396,7 @@ class Examples(unittest.TestCase):
         text = (programs.ROOT / "examples" / "refusals.txt").read_bytes()
         status, out, _ = call("list", str(programs.ROOT / "examples" / "refusals.txt"))
         numbers = [answer.fields[0] for answer in listing.parse(out).answers if answer.word == "refused"]
-        self.assertEqual((status, numbers), (0, [3, 4, 5, 5, 5, 6, 8, 9]))
+        self.assertEqual((status, numbers), (0, [3, 4, 5, 5, 5, 6, 8, 9, 11]))
         for number in numbers:
             self.assertIn(b"# %d: " % number, text)
 
@@ -317,14 +442,15 @@ class Random(unittest.TestCase):
                 before, after = taken.blocks[place], taken.blocks[place + 1]
                 if answer.word == "refused":
                     self.assertEqual((after.hit, after.fill, after.rows), (before.hit, before.fill, {}))
+                    self.assertEqual(after.records, before.records)
 
     def test_ways_visited(self):
         source, hits = random.Random(13), []
         for _ in range(12):
             taken = run.take("random", tracefile.encode(busy_trace(source, 200, tops=(3,))))
-            due = [0]
-            for block, step, answer in zip(taken.blocks, taken.trace.steps, taken.listing.answers):
-                ways = [] if answer.word in ("policy", "refused") else maps.members(block.hit[step.domain])
+            due, domains = [0], (block.domain for block in taken.blocks[1:])
+            for block, domain, answer in zip(taken.blocks, domains, taken.listing.answers):
+                ways = [] if answer.word in ("policy", "select", "refused") else maps.members(block.hit[domain])
                 if answer.word in ("hit", "flush"):
                     ways = ways[: ways.index(answer.fields[0]) + 1]
                     hits.append(len(ways))

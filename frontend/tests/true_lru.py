@@ -35,24 +35,24 @@ _LOCKED = {0: (7, 1), 1: (8, 8)}
 _FRESH = {0: Row(0, 0, 0x0123, (0, 0, 0, 0))}
 _MADE = (  # up to step 5, which both runs have
     block({}, 0, _FRESH),
-    block(_FIRST, 0, _FRESH),
-    block(_BOTH, 0, {0: Row(0, 0, 0x3012, (0, 0, 0, 0))}),
-    block(_BOTH, 0, {0: Row(0b0001, 0, 0x3120, (0, 0, 0, 0))}, 3),
-    block(_BOTH, 0, {0: Row(0b0011, 0, 0x3201, (0, 1, 0, 0))}, 3),
-    block(_BOTH, 0, {0: Row(0b0111, 0, 0x3012, (0, 1, 2, 0))}, 3),
-    block(_BOTH, 0, {0: Row(0b0111, 0, 0x3120, (0, 1, 2, 0))}, 1),
+    block(_FIRST, 0, _FRESH, 0, 0),
+    block(_BOTH, 0, {0: Row(0, 0, 0x3012, (0, 0, 0, 0))}, 0, 1),
+    block(_BOTH, 0, {0: Row(0b0001, 0, 0x3120, (0, 0, 0, 0))}, 3, 0),
+    block(_BOTH, 0, {0: Row(0b0011, 0, 0x3201, (0, 1, 0, 0))}, 3, 0),
+    block(_BOTH, 0, {0: Row(0b0111, 0, 0x3012, (0, 1, 2, 0))}, 3, 0),
+    block(_BOTH, 0, {0: Row(0b0111, 0, 0x3120, (0, 1, 2, 0))}, 1, 0),
 )
 _MOVED = {0: Row(0b1111, 0b1000, 0x1203, (0, 3, 2, 0))}
 STREAM = b"".join(
     (
         *_MADE,
-        block(_BOTH, 0, {0: Row(0b1111, 0b1000, 0x1203, (0, 1, 2, 0))}, 1),
-        block(_BOTH, 0, {0: Row(0b1111, 0b1000, 0x2031, (0, 3, 2, 0))}, 3),
-        block(_BOTH, 0, {0: Row(0b1111, 0b1000, 0x2013, (0, 3, 2, 0))}, 1),
-        block(_LOCKED, 0, _MOVED),
-        block(_LOCKED, 0, _MOVED, 2),
-        block(_BOTH, 0, _MOVED),
-        block(_BOTH, 0, {0: Row(0b1111, 0b1000, 0x2031, (0, 4, 2, 0))}, 3),
+        block(_BOTH, 0, {0: Row(0b1111, 0b1000, 0x1203, (0, 1, 2, 0))}, 1, 1),
+        block(_BOTH, 0, {0: Row(0b1111, 0b1000, 0x2031, (0, 3, 2, 0))}, 3, 0),
+        block(_BOTH, 0, {0: Row(0b1111, 0b1000, 0x2013, (0, 3, 2, 0))}, 1, 1),
+        block(_LOCKED, 0, _MOVED, 0, 0),
+        block(_LOCKED, 0, _MOVED, 2, 0),
+        block(_BOTH, 0, _MOVED, 0, 0),
+        block(_BOTH, 0, {0: Row(0b1111, 0b1000, 0x2031, (0, 4, 2, 0))}, 3, 0),
     )
 )
 
@@ -77,11 +77,11 @@ _STRUCK_MOVED = {0: Row(0b0111, 0, 0x1230, (0, 3, 2, 0))}
 STRUCK_STREAM = b"".join(
     (
         *_MADE,
-        block(_BOTH, 0, {0: Row(0b0111, 0, 0x3201, (0, 3, 2, 0))}, 3),
-        block(_LOCKED, 0, _STRUCK_MOVED),
-        block(_LOCKED, 0, _STRUCK_MOVED, 2),
-        block(_BOTH, 0, _STRUCK_MOVED),
-        block(_BOTH, 0, {0: Row(0b0111, 0, 0x2301, (0, 4, 2, 0))}, 3),
+        block(_BOTH, 0, {0: Row(0b0111, 0, 0x3201, (0, 3, 2, 0))}, 3, 0),
+        block(_LOCKED, 0, _STRUCK_MOVED, 0, 0),
+        block(_LOCKED, 0, _STRUCK_MOVED, 2, 0),
+        block(_BOTH, 0, _STRUCK_MOVED, 0, 0),
+        block(_BOTH, 0, {0: Row(0b0111, 0, 0x2301, (0, 4, 2, 0))}, 3, 0),
     )
 )
 WORDS = 0x2031, 0x2301  # at the end of either run
