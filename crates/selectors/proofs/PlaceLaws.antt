@@ -43,19 +43,21 @@ module _ (core : Core) (c : Command) where
   unfolding meantBy
   unlisted-same other = refl
 
-  unlisted-record : (old : Core) → recordBy (meantBy false core c) old ≡ old
-  unfolding meantBy recordBy
-  unlisted-record old =
+  -- it means a step of the cache, or a refusal
+  unlisted : {A : Type 0} (f : Meant → A) (a : A) → ((o : Command) → f (plain o) ≡ a) → ((n : ℕ) → f (refused n) ≡ a) → f (meantBy false core c) ≡ a
+  unfolding meantBy
+  unlisted f a steps refuses =
       cases (leb 32 (c .kind) && leb (c .kind) 35)
-      (λ t. rw t)
-      (λ t. rw t (cases (eqb (c .kind) 40) (λ u. rw u) (λ u. rw u)))
+      (λ t. rw t (refuses 11))
+      (λ t. rw t (cases (eqb (c .kind) 40) (λ u. rw u (refuses 11)) (λ u. rw u (steps c))))
+
+  unlisted-record : (old : Core) → recordBy (meantBy false core c) old ≡ old
+  unfolding recordBy
+  unlisted-record old = unlisted (λ (m : Meant). recordBy m old) old (λ o. refl) (λ n. refl)
 
   unlisted-records : (i : ℕ) (cores : List Core) → recordsBy (meantBy false core c) i cores ≡ cores
-  unfolding meantBy recordsBy
-  unlisted-records i cores =
-      cases (leb 32 (c .kind) && leb (c .kind) 35)
-      (λ t. rw t)
-      (λ t. rw t (cases (eqb (c .kind) 40) (λ u. rw u) (λ u. rw u)))
+  unfolding recordsBy
+  unlisted-records i cores = unlisted (λ (m : Meant). recordsBy m i cores) cores (λ o. refl) (λ n. refl)
 
 -- ---- a list of 32 records
 

@@ -396,6 +396,7 @@ fn take(
 {
     let command = tracefile::command_at(file, n, i);
     let named = command.domain as usize;
+    // A core that is not in the list is given another's record here, to no effect, and leaves it.
     let place = named % MAX_CORES;
     let domains = before.domains;
     let mut records = before.records;

@@ -1,5 +1,6 @@
--- What is equal in the run and in the struck-out run, where both are lent equally many fresh core records. Who a step belongs to goes by what it means at that
--- moment of the run: "A step of kinds 32 to 35 belongs to the domain its selector names at that moment."
+-- What is equal in the run and in the struck-out run, where both are lent equally many fresh core records. Who a step belongs to goes by what it means at
+-- that moment of the run: "A step of kinds 32 to 35 belongs to the domain its selector names at that moment." The records are followed from step to step by
+-- `recordsAfter`; law `run-plain`: they are those that the run itself has at that moment.
 use mathlib.Core.Path.{_≡_}
 use mathlib.Core.Bool.{Bool, cond, not, _&&_}
 use mathlib.Core.List.{List, [], _∷_, map}

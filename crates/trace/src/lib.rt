@@ -57,6 +57,7 @@ fn run(
     while i < steps {
         let command = tracefile::command_at(file, steps, i);
         let named = command.domain as usize;
+        // A core that is not in the list is given another's record here, to no effect, and leaves it.
         let place = named % MAX_CORES;
         let core = cores[place];
         let turned = cores::turn(
