@@ -24,7 +24,7 @@ use Rattle.steps.specs.Tables.{Tables, rowAt}
 use Rattle.steps.specs.Step.{State}
 use Rattle.steps.proofs.RunLaws.{Kept}
 use Rattle.isolation.specs.StruckOut.{SameTo}
-use Rattle.isolation.proofs.LineUnwinding.{policy-cut}
+use Rattle.reached.proofs.SeparateLaws.{policy-cut}
 use Rattle.demand.specs.Free.{digit, isFree}
 use Rattle.demand.specs.Order.{isOrder, placeOf}
 use Rattle.demand.specs.Demand.{domainAt, each, lines, isOwn, bits, isPair, pairs, WellFormed}

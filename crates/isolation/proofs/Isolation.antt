@@ -1,16 +1,12 @@
 -- The struck-out run, as one theorem.
 use mathlib.Core.Path.{_≡_, refl, sym, ap, ap₂, _∙_}
-use mathlib.Core.Bool.{Bool, true, false, not, _&&_, and-false}
+use mathlib.Core.Bool.{Bool, true, false, not, _&&_}
 use mathlib.Core.List.{List, [], _∷_, map}
 use Prim.Native.Nat.{ℕ, _<_}
 use native.Mathlib.Omega.{arith}
-use lib.Dec.{eqb, ltb}
+use lib.Dec.{eqb}
 use borrow.Author.Tests.{ne-eqb}
-use Rattle.waymap.specs.Bits.{bit}
 use Rattle.waymap.proofs.Booleans.{cases, and-left}
-use Rattle.waymap.proofs.BitLaws.{bit-none}
-use Rattle.waymap.proofs.WordLaws.{bit-word}
-use Rattle.policy.specs.Policy.{asRead}
 use Rattle.row.proofs.LineLaws.{same-line}
 use Rattle.geometry.specs.Geometry.{within}
 use Rattle.domains.specs.Domains.{policies}
@@ -25,10 +21,10 @@ use Rattle.steps.specs.Fresh.{fresh}
 use Rattle.purge.specs.Purge.{belongs, keeps, purge}
 use Rattle.isolation.specs.StruckOut.{answersTo, ownAnswers, numberOf, verdicts, SameTo, StruckOut}
 use Rattle.isolation.specs.Lookups.{along}
-use Rattle.steps.proofs.RunLaws.{fresh-whole, fresh-domain}
 use Rattle.isolation.proofs.Relation.{Related}
-use Rattle.isolation.proofs.RowUnwinding.{rule, view-same}
-use Rattle.isolation.proofs.LineUnwinding.{policy-cut}
+use Rattle.isolation.proofs.RowUnwinding.{view-same}
+use Rattle.reached.proofs.SeparateLaws.{policy-cut}
+use Rattle.reached.proofs.Reached.{fresh-reached, reached-separate}
 use Rattle.isolation.proofs.Unwinding.{output-consistent, verdict-consistent, step-consistent, locally-respects}
 use Rattle.purge.proofs.KeepLaws.{struck}
 
@@ -38,26 +34,15 @@ module _ (g : Geometry) (limits : within g ≡ true) (d : ℕ) (low : d < 16) wh
   l : Limited g
   l = limited g limits
 
-  no-hit : (e w : ℕ) → bit (policies (g .ways) (fresh g .domains) e .hit) w ≡ false
-  unfolding policies asRead
-  no-hit e w = rw (fresh-domain g limits e, bit-word 16 (λ (v : ℕ). bit 0 v && ltb v (g .ways)) w, bit-none w) (and-false (ltb w 16))
-
-  no-fill : (e w : ℕ) → bit (policies (g .ways) (fresh g .domains) e .fill) w ≡ false
-  unfolding policies asRead
-  no-fill e w = rw (fresh-domain g limits e, bit-word 16 (λ (v : ℕ). bit 0 v && (bit 0 v && ltb v (g .ways))) w, bit-none w) (and-false (ltb w 16))
-
   pub fresh-related : Related g d (fresh g) (fresh g)
   fresh-related = record {
-    whole-a = fresh-whole g limits;
-    whole-b = fresh-whole g limits;
-    policy-same = λ e. refl;
-    separate = record {
-      ways-apart = λ e f he hf n w. rw (no-hit e w);
-      nodes-apart = λ e f he hf n. rule g l .shares-empty (policies (g .ways) (fresh g .domains) e .fill) (policies (g .ways) (fresh g .domains) f .fill)
-          (no-fill e);
+    reached-a = fresh-reached g;
+    reached-b = fresh-reached g;
+    tied = record {
+      policy-same = λ e. refl;
+      domain-same = refl;
+      alike = λ s h. record { lines = λ w k u. same-line (rowAt (g .ways) s (fresh g .tables)) w; cells = λ x u. refl };
     };
-    domain-same = refl;
-    alike = λ s h. record { lines = λ w k u. same-line (rowAt (g .ways) s (fresh g .tables)) w; cells = λ x u. refl };
   }
 
   -- ---- a list of steps and its purge, from related states
@@ -123,9 +108,9 @@ module _ (g : Geometry) (limits : within g ≡ true) (d : ℕ) (low : d < 16) wh
   -- related states are the same to the domain
   pub same-to : (a b : State) → Related g d a b → SameTo g d a b
   same-to a b rel = record {
-    domain = rel .domain-same;
-    sets = λ s h. view-same g l d low (policies (g .ways) (a .domains)) (policy-cut (g .ways) (a .domains)) (rel .separate) (rowAt (g .ways) s (a .tables))
-        (rowAt (g .ways) s (b .tables)) (rel .alike s h);
+    domain = rel .tied .domain-same;
+    sets = λ s h. view-same g l d low (policies (g .ways) (a .domains)) (policy-cut (g .ways) (a .domains))
+        (reached-separate g limits a (rel .reached-a)) (rowAt (g .ways) s (a .tables)) (rowAt (g .ways) s (b .tables)) (rel .tied .alike s h);
   }
 
 -- Isolation. For every geometry within the limits, every domain and every list of steps whatever they name and ask for: strike the

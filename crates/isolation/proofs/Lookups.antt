@@ -25,6 +25,7 @@ use Rattle.command.specs.Command.{Command}
 use Rattle.purge.specs.Purge.{belongs, purge}
 use Rattle.purge.proofs.KeepLaws.{struck}
 use Rattle.isolation.specs.Lookups.{lookupAt, visitedAt, visitsOf, ownVisits, SameLookups}
+use Rattle.reached.proofs.Reached.{reached-whole}
 use Rattle.isolation.proofs.Relation.{Related}
 use Rattle.isolation.proofs.Unwinding.{output-consistent}
 use Rattle.isolation.proofs.Isolation.{fresh-related, along-from, finally-from, same-to}
@@ -39,7 +40,7 @@ module _ (g : Geometry) (limits : within g ≡ true) (d : ℕ) (low : d < 16) (a
     inside = set-below g address (limited g limits)
 
     long : ways (row a) ≡ g .ways
-    long = row-long g (rel .whole-a .shaped) (setOf g address) inside
+    long = row-long g (reached-whole g limits a (rel .reached-a) .shaped) (setOf g address) inside
 
     matches : (w : ℕ) → bit (asRead (ways (row a)) (mapsOf (domainOf (a .domains) d)) .hit) w ≡ true → SameMatch (row a) (row b) w
     unfolding policies
@@ -48,9 +49,9 @@ module _ (g : Geometry) (limits : within g ≡ true) (d : ℕ) (low : d < 16) (a
     lookup-related : (lookupAt g d address a ≡ lookupAt g d address b) × (visitedAt g d address a ≡ visitedAt g d address b)
     unfolding lookupAt visitedAt
     lookup-related =
-        rw (← (rel .domain-same))
+        rw (← (rel .tied .domain-same))
         (lookup-same (mapsOf (domainOf (a .domains) d)) (tagOf g address) (row a) (row b)
-        (long ∙ sym (row-long g (rel .whole-b .shaped) (setOf g address) inside)) matches)
+        (long ∙ sym (row-long g (reached-whole g limits b (rel .reached-b) .shaped) (setOf g address) inside)) matches)
 
   -- so a step of its own visits as many ways
   visits-related : (c : Command) → belongs d c ≡ true → visitsOf g c a ≡ visitsOf g c b

@@ -2,15 +2,13 @@
 use mathlib.Core.Path.{_≡_, refl, sym, ap, subst, _∙_}
 use mathlib.Core.Bool.{Bool, true, false, xor, true≢false, false≢true}
 use Prim.Native.Nat.{ℕ, _<_}
-use native.Mathlib.Nat.{le-trans}
-use lib.Dec.{eqb, lit≤}
+use lib.Dec.{eqb}
 use lib.ListN.{length}
 use borrow.Author.Tests.{eqb-true, eqb-false}
 use Rattle.waymap.specs.Bits.{bit}
 use Rattle.waymap.proofs.Booleans.{cases, not-both}
 use Rattle.replacement.specs.Rule.{Rule, ruleOf}
-use Rattle.replacement.specs.Isolates.{Isolates, Apart}
-use Rattle.replacement.proofs.RuleLaws.{isolates}
+use Rattle.replacement.specs.Isolates.{Apart}
 use Rattle.row.specs.Row.{Row, hitWay, access, flush}
 use Rattle.sweep.specs.Clean.{moved, cleaned, dropped, droppedDirty}
 use Rattle.row.specs.View.{SameLine, SameView, SameRead}
@@ -33,7 +31,9 @@ use Rattle.row.proofs.LineLaws.{
 use Rattle.sweep.proofs.CleanLaws.{clean-gone, clean-agrees, drops-same, dirty-drops-same}
 use Rattle.geometry.specs.Inside.{Limited}
 use Rattle.geometry.specs.declared.Geometry.{Geometry}
-use Rattle.isolation.proofs.Relation.{Separate, Unheld, Unwritten, Alike}
+use Rattle.reached.specs.Reached.{Separate}
+use Rattle.reached.proofs.SeparateLaws.{rule}
+use Rattle.isolation.proofs.Relation.{Unheld, Unwritten, Alike}
 
 -- a way that does not move and is not there afterwards was not there before; one that moves and was not there before is gained
 unmoved : (old new : Bool) → xor old new ≡ false → new ≡ false → old ≡ false
@@ -52,10 +52,6 @@ module _ (g : Geometry) (l : Limited g) where
   abbrev R : Rule
   R = ruleOf (g .rule) (g .ways)
 
-  -- the rule in use isolates
-  pub rule : Isolates (g .ways) (ruleOf (g .rule) (g .ways))
-  rule = isolates (g .rule) (g .ways) (le-trans (l .most-ways) (lit≤ tt))
-
   module _ (d : ℕ) (low : d < 16) (policy : ℕ → Maps) (cut : (e : ℕ) → Cut (g .ways) (policy e)) (apart : Separate g policy) where
     -- a domain's ways are held by no other, and what its choices go by is written by no other
     pub own-unheld : (w : ℕ) → bit (policy d .hit) w ≡ true → Unheld d policy w
@@ -70,7 +66,7 @@ module _ (g : Geometry) (l : Limited g) where
         (λ t. rw t)
 
     pub own-unwritten : (x : R .Cell) → R .own (policy d .fill) x ≡ true → Unwritten R d policy x
-    own-unwritten x t e k n = rule .own-apart (policy d .fill) (policy e .fill) x (fills-apart e k n) (apart .nodes-apart d e low k (λ q. n (sym q))) t
+    own-unwritten x t e k n = rule g l .own-apart (policy d .fill) (policy e .fill) x (fills-apart e k n) (apart .nodes-apart d e low k (λ q. n (sym q))) t
 
     -- so two rows that are alike look the same to the domain
     pub view-same : (r q : Row) → Alike g d policy r q → SameView R (policy d) r q
@@ -87,37 +83,37 @@ module _ (g : Geometry) (l : Limited g) where
       pub own-access : (store : Bool) → (access R (policy d) tag store r .answer ≡ access R (policy d) tag store q .answer)
           × Alike g d policy (access R (policy d) tag store r .row) (access R (policy d) tag store q .row)
       own-access store = (
-        access-answer rule (l .most-ways) (policy d) (cut d) tag r q long-r long-q read store,
+        access-answer (rule g l) (l .most-ways) (policy d) (cut d) tag r q long-r long-q read store,
         record {
-          lines = λ w h u. access-agrees rule (l .most-ways) (policy d) (cut d) tag r q long-r long-q read store w h (a .lines w h u);
-          cells = λ x u. access-view rule (l .most-ways) (policy d) (cut d) tag r q long-r long-q read store x (a .cells x u);
+          lines = λ w h u. access-agrees (rule g l) (l .most-ways) (policy d) (cut d) tag r q long-r long-q read store w h (a .lines w h u);
+          cells = λ x u. access-view (rule g l) (l .most-ways) (policy d) (cut d) tag r q long-r long-q read store x (a .cells x u);
         },
       )
 
       pub own-flush : (flush (policy d) tag r .answer ≡ flush (policy d) tag q .answer)
           × Alike g d policy (flush (policy d) tag r .row) (flush (policy d) tag q .row)
       own-flush = (
-        flush-answer rule (l .most-ways) (policy d) (cut d) tag r q long-r long-q read
+        flush-answer (rule g l) (l .most-ways) (policy d) (cut d) tag r q long-r long-q read
             (λ t. view-same r q a .lines (hitWay r (policy d .hit) tag) (hit-own (r .tags) (r .valid) (policy d .hit) tag t) .dirty),
         record {
-          lines = λ w h u. flush-agrees rule (l .most-ways) (policy d) (cut d) tag r q long-r long-q read w h (a .lines w h u);
+          lines = λ w h u. flush-agrees (rule g l) (l .most-ways) (policy d) (cut d) tag r q long-r long-q read w h (a .lines w h u);
           cells = λ x u.
-              ap (λ (y : ℕ). R .view y x) (flush-word rule (l .most-ways) (policy d) (cut d) tag r long-r) ∙ a .cells x u
-              ∙ ap (λ (y : ℕ). R .view y x) (sym (flush-word rule (l .most-ways) (policy d) (cut d) tag q long-q));
+              ap (λ (y : ℕ). R .view y x) (flush-word (rule g l) (l .most-ways) (policy d) (cut d) tag r long-r) ∙ a .cells x u
+              ∙ ap (λ (y : ℕ). R .view y x) (sym (flush-word (rule g l) (l .most-ways) (policy d) (cut d) tag q long-q));
         },
       )
 
       -- a neighbour's, on one side
       pub other-access : (e : ℕ) → e < 16 → (e ≡ d → ⊥) → (store : Bool) → Alike g d policy (access R (policy e) tag store r .row) q
       other-access e k n store = record {
-        lines = λ w h u. line-trans (access-leaves rule (l .most-ways) (policy e) (cut e) tag r long-r store w h (u e k n)) (a .lines w h u);
-        cells = λ x u. access-stays rule (l .most-ways) (policy e) (cut e) tag r long-r store x (u e k n) ∙ a .cells x u;
+        lines = λ w h u. line-trans (access-leaves (rule g l) (l .most-ways) (policy e) (cut e) tag r long-r store w h (u e k n)) (a .lines w h u);
+        cells = λ x u. access-stays (rule g l) (l .most-ways) (policy e) (cut e) tag r long-r store x (u e k n) ∙ a .cells x u;
       }
 
       pub other-flush : (e : ℕ) → e < 16 → (e ≡ d → ⊥) → Alike g d policy (flush (policy e) tag r .row) q
       other-flush e k n = record {
-        lines = λ w h u. line-trans (flush-leaves rule (l .most-ways) (policy e) (cut e) tag r long-r w h (u e k n)) (a .lines w h u);
-        cells = λ x u. ap (λ (y : ℕ). R .view y x) (flush-word rule (l .most-ways) (policy e) (cut e) tag r long-r) ∙ a .cells x u;
+        lines = λ w h u. line-trans (flush-leaves (rule g l) (l .most-ways) (policy e) (cut e) tag r long-r w h (u e k n)) (a .lines w h u);
+        cells = λ x u. ap (λ (y : ℕ). R .view y x) (flush-word (rule g l) (l .most-ways) (policy e) (cut e) tag r long-r) ∙ a .cells x u;
       }
 
     -- ---- a change of policy of domain e, from its old maps to new ones
@@ -153,12 +149,12 @@ module _ (g : Geometry) (l : Limited g) where
               ≡ R .view (R .reset (policy e .fill) (new .fill) (q .word)) x
           cells x u =
               cases (eqb e d)
-              (λ t. rule .reset-agrees (policy e .fill) (new .fill) (r .word) (q .word) x
+              (λ t. rule g l .reset-agrees (policy e .fill) (new .fill) (r .word) (q .word) x
               (a .cells x (unwritten-before x (λ n. absurd (n (eqb-true e d t))) u)))
               (λ t. let gone : R .writes (new .fill) x ≡ false = ap (λ (p : Maps). R .writes (p .fill) x) (sym changed) ∙ u e k (eqb-false e d t) in
               cases (R .writes (policy e .fill) x)
-              (λ z. rule .reset-clears (policy e .fill) (new .fill) (r .word) (q .word) x z gone)
-              (λ z. rule .reset-agrees (policy e .fill) (new .fill) (r .word) (q .word) x (a .cells x (unwritten-before x (λ n. z) u))))
+              (λ z. rule g l .reset-clears (policy e .fill) (new .fill) (r .word) (q .word) x z gone)
+              (λ z. rule g l .reset-agrees (policy e .fill) (new .fill) (r .word) (q .word) x (a .cells x (unwritten-before x (λ n. z) u))))
 
       -- the domain's own change drops the same lines, if no other domain holds a way that it gains
       module _ (own : e ≡ d) (gains : (w : ℕ) → bit (new .hit) w ≡ true → Unheld d policy w) (long-r : length (r .tags) ≡ g .ways)

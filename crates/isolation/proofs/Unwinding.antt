@@ -1,5 +1,5 @@
 -- The unwinding lemmas of Goguen and Meseguer, for one step: `output-consistent`, `step-consistent` and `locally-respects`.
-use mathlib.Core.Path.{_≡_, refl, sym, fun-ext, _∙_}
+use mathlib.Core.Path.{_≡_, refl, ap, fun-ext}
 use mathlib.Core.Bool.{true, false}
 use Prim.Native.Nat.{ℕ, _≤_, _<_}
 use native.Mathlib.Omega.{arith}
@@ -7,88 +7,85 @@ use lib.Dec.{eqb, leb, ltb}
 use borrow.Author.Tests.{eqb-true, eqb-false, eq-eqb, ne-eqb, leb-true, leb-false, ltb-false, le-ltb}
 use Rattle.waymap.proofs.Booleans.{cases}
 use Rattle.replacement.specs.Rule.{ruleOf}
+use Rattle.policy.specs.declared.Maps.{Maps}
 use Rattle.command.specs.declared.Answer.the-variants.{Refused}
 use Rattle.geometry.specs.Geometry.{within}
 use Rattle.domains.specs.Domains.{domainOf, policies}
 use Rattle.command.specs.Kind.{Kind, access, flush, policy, unknown, kindOf}
 use Rattle.verdict.specs.Refusal.{useRefusal, policyRefusal, refusalBy}
-use Rattle.geometry.specs.Inside.{Limited}
 use Rattle.geometry.specs.declared.Geometry.{Geometry}
-use Rattle.geometry.proofs.GeometryLaws.{limited}
-use Rattle.steps.specs.Tables.{lengths}
 use Rattle.steps.specs.Step.{State, Outcome, answers, useLine, changePolicy, stepBy, decided}
 use Rattle.command.specs.Command.{Command}
 use Rattle.steps.specs.Run.{stepOn}
-use Rattle.steps.specs.Inside.{lineWork}
+use Rattle.steps.specs.Inside.{Whole, numberBy, changeNumber, lineWork}
 use Rattle.steps.proofs.StateLaws.{step-beyond, step-within}
 use Rattle.purge.specs.Purge.{belongs, keeps}
 use Rattle.purge.proofs.KeepLaws.{struck, kept-kind}
 use Rattle.isolation.specs.StruckOut.{numberOf}
-use Rattle.isolation.proofs.Relation.{Related}
+use Rattle.reached.proofs.Reached.{step-reached, reached-whole}
+use Rattle.isolation.proofs.Relation.{Tied, Related}
 use Rattle.isolation.proofs.LineUnwinding.{own-line, other-line}
-use Rattle.isolation.proofs.PolicyUnwinding.{policy-related, policy-answer}
+use Rattle.isolation.proofs.PolicyUnwinding.{policy-tied, policy-answer}
 
 module _ (g : Geometry) (limits : within g ≡ true) (d : ℕ) (low : d < 16) where
-  l : Limited g
-  l = limited g limits
-
   -- ---- two outcomes are consistent
 
   record Consistent (o p : Outcome) : Type 0 where
     answer-same : o .answer ≡ p .answer
-    related : Related g d (o .state) (p .state)
+    tied : Tied g d (o .state) (p .state)
 
   -- a verdict that both runs share
   module _ (a b : State) (rel : Related g d a b) where
     both-decided : (n : ℕ) (o p : Outcome) → (n ≡ 0 → Consistent o p) → Consistent (decided n o a) (decided n p b)
     unfolding decided
-    both-decided n o p f = cases (eqb n 0) (λ t. rw t (f (eqb-true n 0 t))) (λ t. rw t (record { answer-same = refl; related = rel }))
+    both-decided n o p f = cases (eqb n 0) (λ t. rw t (f (eqb-true n 0 t))) (λ t. rw t (record { answer-same = refl; tied = rel .tied }))
 
-    lengths-same : lengths (a .tables) ≡ lengths (b .tables)
-    lengths-same = λ i. record {
-      tags = (rel .whole-a .shaped .tags-long ∙ sym (rel .whole-b .shaped .tags-long)) i;
-      valid = (rel .whole-a .shaped .valid-long ∙ sym (rel .whole-b .shaped .valid-long)) i;
-      dirty = (rel .whole-a .shaped .dirty-long ∙ sym (rel .whole-b .shaped .dirty-long)) i;
-      words = (rel .whole-a .shaped .words-long ∙ sym (rel .whole-b .shaped .words-long)) i;
-    }
+    whole-a : Whole g a
+    whole-a = reached-whole g limits a (rel .reached-a)
+
+    whole-b : Whole g b
+    whole-b = reached-whole g limits b (rel .reached-b)
 
     policies-same : policies (g .ways) (a .domains) ≡ policies (g .ways) (b .domains)
-    policies-same = fun-ext (rel .policy-same)
+    policies-same = fun-ext (rel .tied .policy-same)
+
+    -- a change of policy, of any domain, has the same number
+    change-number : (e arg : ℕ) → changeNumber g e arg a ≡ changeNumber g e arg b
+    change-number e arg = ap (λ (p : ℕ → Maps). policyRefusal g p e arg) policies-same
 
     -- ---- a step of the domain itself
 
     own-by : (k : Kind) (arg : ℕ)
-        → Consistent (decided (refusalBy k g (policies (g .ways) (a .domains)) (domainOf (a .domains) d .counts) d arg) (stepBy k g d arg a) a)
-        (decided (refusalBy k g (policies (g .ways) (b .domains)) (domainOf (b .domains) d .counts) d arg) (stepBy k g d arg b) b)
+        → Consistent (decided (numberBy k g d arg a) (stepBy k g d arg a) a) (decided (numberBy k g d arg b) (stepBy k g d arg b) b)
     unfolding refusalBy stepBy
     own-by (access store) arg =
-        rw (← policies-same, ← (rel .domain-same))
+        rw (← policies-same, ← (rel .tied .domain-same))
         (both-decided (useRefusal (policies (g .ways) (a .domains) d) (domainOf (a .domains) d .counts)) _ _
-        (λ z. let r = own-line g l d low false store arg a b rel in record { answer-same = r .0; related = r .1 }))
+        (λ z. let r = own-line g limits d low false store arg a b rel in record { answer-same = r .0; tied = r .1 }))
     own-by flush arg =
-        rw (← policies-same, ← (rel .domain-same))
+        rw (← policies-same, ← (rel .tied .domain-same))
         (both-decided (useRefusal (policies (g .ways) (a .domains) d) (domainOf (a .domains) d .counts)) _ _
-        (λ z. let r = own-line g l d low true false arg a b rel in record { answer-same = r .0; related = r .1 }))
+        (λ z. let r = own-line g limits d low true false arg a b rel in record { answer-same = r .0; tied = r .1 }))
     own-by policy arg =
-        rw (← policies-same)
-        (both-decided (policyRefusal g (policies (g .ways) (a .domains)) d arg) _ _
-        (λ z. record { answer-same = policy-answer g l d low d low arg a b rel z refl; related = policy-related g l d low d low arg a b rel z }))
+        rw (← (change-number d arg))
+        (both-decided (changeNumber g d arg a) _ _
+        (λ z. record { answer-same = policy-answer g limits d low d low arg a b rel z refl; tied = policy-tied g limits d low d low arg a b rel }))
     own-by unknown arg = both-decided 4 _ _ (λ z. absurd (omega arith))
 
     own-step : (c : Command) → c .domain ≡ d → Consistent (stepOn g c a) (stepOn g c b)
     own-step c e =
-        rw (step-within g limits c a (rel .whole-a) (rw e low), step-within g limits c b (rel .whole-b) (rw e low), e) (own-by (kindOf (c .kind)) (c .argument))
+        rw (step-within g limits c a whole-a (rw e low), step-within g limits c b whole-b (rw e low), e) (own-by (kindOf (c .kind)) (c .argument))
 
     -- ---- a kept step of another domain
 
     -- the same number, and the relation is kept; what it drops may differ
     record Agreed (o p : Outcome) : Type 0 where
       number-same : numberOf (o .answer) ≡ numberOf (p .answer)
-      related : Related g d (o .state) (p .state)
+      tied : Tied g d (o .state) (p .state)
 
     other-decided : (n : ℕ) (o p : Outcome) → (n ≡ 0 → Agreed o p) → Agreed (decided n o a) (decided n p b)
     unfolding decided
-    other-decided n o p f = cases (eqb n 0) (λ t. rw t (f (eqb-true n 0 t))) (λ t. rw t (record { number-same = refl; related = rel }))
+    other-decided n o p f = cases (eqb n 0) (λ t. rw t (f (eqb-true n 0 t))) (λ t. rw t (record { number-same = refl; tied = rel .tied }))
 
     -- an accepted change of policy has no number
     policy-number : (e arg : ℕ) → numberOf (changePolicy g e arg a .answer) ≡ numberOf (changePolicy g e arg b .answer)
@@ -96,20 +93,19 @@ module _ (g : Geometry) (limits : within g ≡ true) (d : ℕ) (low : d < 16) wh
     policy-number e arg = refl
 
     other-policy : (e : ℕ) → e < 16 → (arg : ℕ)
-        → Agreed (decided (policyRefusal g (policies (g .ways) (a .domains)) e arg) (changePolicy g e arg a) a)
-        (decided (policyRefusal g (policies (g .ways) (b .domains)) e arg) (changePolicy g e arg b) b)
+        → Agreed (decided (changeNumber g e arg a) (changePolicy g e arg a) a) (decided (changeNumber g e arg b) (changePolicy g e arg b) b)
     other-policy e h arg =
-        rw (← policies-same)
-        (other-decided (policyRefusal g (policies (g .ways) (a .domains)) e arg) (changePolicy g e arg a) (changePolicy g e arg b)
-        (λ z. record { number-same = policy-number e arg; related = policy-related g l d low e h arg a b rel z }))
+        rw (← (change-number e arg))
+        (other-decided (changeNumber g e arg a) (changePolicy g e arg a) (changePolicy g e arg b)
+        (λ z. record { number-same = policy-number e arg; tied = policy-tied g limits d low e h arg a b rel }))
 
     other-unknown : (o p : Outcome) → Agreed (decided 4 o a) (decided 4 p b)
     other-unknown o p = other-decided 4 o p (λ z. absurd (omega arith))
 
     -- a kind that is no access and no flush is a policy change or unknown
     other-by : (k e arg : ℕ) → 4 ≤ k → e < 16
-        → Agreed (decided (refusalBy (kindOf k) g (policies (g .ways) (a .domains)) (domainOf (a .domains) e .counts) e arg) (stepBy (kindOf k) g e arg a) a)
-        (decided (refusalBy (kindOf k) g (policies (g .ways) (b .domains)) (domainOf (b .domains) e .counts) e arg) (stepBy (kindOf k) g e arg b) b)
+        → Agreed (decided (numberBy (kindOf k) g e arg a) (stepBy (kindOf k) g e arg a) a)
+        (decided (numberBy (kindOf k) g e arg b) (stepBy (kindOf k) g e arg b) b)
     unfolding kindOf refusalBy stepBy
     other-by k e arg h low-e =
         rw (le-ltb k 3 (omega arith), ne-eqb k 3 (λ q. omega arith))
@@ -120,33 +116,32 @@ module _ (g : Geometry) (limits : within g ≡ true) (d : ℕ) (low : d < 16) wh
     kept-step : (c : Command) → 4 ≤ c .kind → Agreed (stepOn g c a) (stepOn g c b)
     kept-step c h =
         cases (leb 16 (c .domain))
-        (λ t. rw (step-beyond g limits c a (rel .whole-a) (leb-true 16 (c .domain) t), step-beyond g limits c b (rel .whole-b) (leb-true 16 (c .domain) t))
-        (record { number-same = refl; related = rel }))
-        (λ t. rw (step-within g limits c a (rel .whole-a) (leb-false 16 (c .domain) t), step-within g limits c b (rel .whole-b) (leb-false 16 (c .domain) t))
+        (λ t. rw (step-beyond g limits c a whole-a (leb-true 16 (c .domain) t), step-beyond g limits c b whole-b (leb-true 16 (c .domain) t))
+        (record { number-same = refl; tied = rel .tied }))
+        (λ t. rw (step-within g limits c a whole-a (leb-false 16 (c .domain) t), step-within g limits c b whole-b (leb-false 16 (c .domain) t))
         (other-by (c .kind) (c .domain) (c .argument) h (leb-false 16 (c .domain) t)))
 
     -- ---- a neighbour's access or flush, in one run alone
 
-    one-decided : (n : ℕ) (o : Outcome) → Related g d (o .state) b → Related g d (decided n o a .state) b
+    one-decided : (n : ℕ) (o : Outcome) → Tied g d (o .state) b → Tied g d (decided n o a .state) b
     unfolding decided
-    one-decided n o f = cases (eqb n 0) (λ t. rw t f) (λ t. rw t rel)
+    one-decided n o f = cases (eqb n 0) (λ t. rw t f) (λ t. rw t (rel .tied))
 
     dropped-by : (k e arg : ℕ) → k < 4 → e < 16 → (e ≡ d → ⊥)
-        → Related g d (decided (refusalBy (kindOf k) g (policies (g .ways) (a .domains)) (domainOf (a .domains) e .counts) e arg)
-        (stepBy (kindOf k) g e arg a) a .state) b
+        → Tied g d (decided (numberBy (kindOf k) g e arg a) (stepBy (kindOf k) g e arg a) a .state) b
     unfolding kindOf stepBy
     dropped-by k e arg h low-e n =
         cases (ltb k 3)
         (λ t. rw t (one-decided _ (useLine g (lineWork false (ruleOf (g .rule) (g .ways)) (eqb k 2)) e arg a)
-        (other-line g l d low false (eqb k 2) arg a b rel e low-e n)))
+        (other-line g limits d low false (eqb k 2) arg a b rel e low-e n)))
         (λ t. rw (t, eq-eqb k 3 (omega (arith, ltb-false k 3 t)))
-        (one-decided _ (useLine g (lineWork true (ruleOf (g .rule) (g .ways)) false) e arg a) (other-line g l d low true false arg a b rel e low-e n)))
+        (one-decided _ (useLine g (lineWork true (ruleOf (g .rule) (g .ways)) false) e arg a) (other-line g limits d low true false arg a b rel e low-e n)))
 
-    dropped-step : (c : Command) → c .kind < 4 → (c .domain ≡ d → ⊥) → Related g d (stepOn g c a .state) b
+    dropped-step : (c : Command) → c .kind < 4 → (c .domain ≡ d → ⊥) → Tied g d (stepOn g c a .state) b
     dropped-step c h n =
         cases (leb 16 (c .domain))
-        (λ t. rw (step-beyond g limits c a (rel .whole-a) (leb-true 16 (c .domain) t)) rel)
-        (λ t. rw (step-within g limits c a (rel .whole-a) (leb-false 16 (c .domain) t))
+        (λ t. rw (step-beyond g limits c a whole-a (leb-true 16 (c .domain) t)) (rel .tied))
+        (λ t. rw (step-within g limits c a whole-a (leb-false 16 (c .domain) t))
         (dropped-by (c .kind) (c .domain) (c .argument) h (leb-false 16 (c .domain) t) n))
 
     -- ---- the three unwinding lemmas
@@ -161,11 +156,16 @@ module _ (g : Geometry) (limits : within g ≡ true) (d : ℕ) (low : d < 16) wh
 
     -- a step that stays leads from related states to related states
     pub step-consistent : (c : Command) → keeps d c ≡ true → Related g d (stepOn g c a .state) (stepOn g c b .state)
-    step-consistent c t =
-        cases (belongs d c)
-        (λ u. own-step c (eqb-true (c .domain) d u) .related)
-        (λ u. kept-step c (kept-kind d c t u) .related)
+    step-consistent c t = record {
+      reached-a = step-reached g c a (rel .reached-a);
+      reached-b = step-reached g c b (rel .reached-b);
+      tied = cases (belongs d c) (λ u. own-step c (eqb-true (c .domain) d u) .tied) (λ u. kept-step c (kept-kind d c t u) .tied);
+    }
 
     -- a step that is struck out leads to a state that is related to where it started
     pub locally-respects : (c : Command) → keeps d c ≡ false → Related g d (stepOn g c a .state) b
-    locally-respects c t = dropped-step c (struck d c t .kind) (eqb-false (c .domain) d (struck d c t .other))
+    locally-respects c t = record {
+      reached-a = step-reached g c a (rel .reached-a);
+      reached-b = rel .reached-b;
+      tied = dropped-step c (struck d c t .kind) (eqb-false (c .domain) d (struck d c t .other));
+    }

@@ -17,7 +17,7 @@ use Rattle.domains.specs.Domains.{domainOf, policies, counted, newDomain}
 use Rattle.domains.specs.declared.Counts.{Counts}
 use Rattle.domains.specs.declared.Domain.{Domain}
 use Rattle.domains.proofs.CountLaws.{unspent}
-use Rattle.verdict.specs.Refusal.{useRefusal, policyRefusal}
+use Rattle.verdict.specs.Refusal.{useRefusal}
 use Rattle.verdict.proofs.RefusalLaws.{not-full}
 use Rattle.geometry.specs.Geometry.{within}
 use Rattle.geometry.specs.Address.{setOf}
@@ -25,10 +25,10 @@ use Rattle.geometry.specs.declared.Geometry.{Geometry}
 use Rattle.steps.specs.Step.{State, rowEffect, useLine, changePolicy}
 use Rattle.steps.specs.Run.{finally}
 use Rattle.steps.specs.Fresh.{fresh}
-use Rattle.steps.specs.Inside.{lineWork}
+use Rattle.steps.specs.Inside.{changeNumber, lineWork}
 use Rattle.steps.proofs.StateLaws.{line-domain, line-domain-other, changed-domain, changed-other}
 use Rattle.steps.proofs.RunLaws.{run-lasts, Kept, fresh-kept, fresh-domain, worked, worked-long, line-kept, change-kept, inside}
-use Rattle.locking.proofs.Reached.{Reached}
+use Rattle.reached.specs.Reached.{Reached}
 
 -- the hits of counts fit 32 bits
 abbrev Fits : Counts → Type 0
@@ -81,7 +81,7 @@ module _ (g : Geometry) (limits : within g ≡ true) where
           omega (arith, one-hit (x .answer) c, unspent c (not-full (policies (g .ways) (s .domains) e) c z) .hits, q .all e)
 
   -- no change of policy adds a hit
-  change-fit : (s : State) → Fit s → (e : ℕ) → e < 16 → (arg : ℕ) → policyRefusal g (policies (g .ways) (s .domains)) e arg ≡ 0
+  change-fit : (s : State) → Fit s → (e : ℕ) → e < 16 → (arg : ℕ) → changeNumber g e arg s ≡ 0
       → Fit (changePolicy g e arg s .state)
   change-fit s q e k arg z = record {
     kept = change-kept g limits s (q .kept) e k arg z;

@@ -33,11 +33,13 @@ use Rattle.steps.specs.Inside.{Whole, lineWork}
 use Rattle.steps.proofs.SetLaws.{row-long}
 use Rattle.steps.proofs.StateLaws.{step-within}
 use Rattle.isolation.specs.StruckOut.{numberOf}
-use Rattle.isolation.proofs.LineUnwinding.{policy-cut}
+use Rattle.reached.proofs.SeparateLaws.{policy-cut}
 use Rattle.purge.specs.Purge.{belongs}
 use Rattle.locking.specs.Locked.{locked, lockedIn, sameLine}
 use Rattle.locking.specs.Locking.{changes, flushes, accesses, Answered, Stands, Unspent}
-use Rattle.locking.proofs.Reached.{Reached, step-reached, rule, reached-whole}
+use Rattle.reached.specs.Reached.{Reached}
+use Rattle.reached.proofs.Reached.{step-reached, reached-whole}
+use Rattle.locking.proofs.WordFits.{rule}
 use Rattle.locking.proofs.OnceLaws.{reached-once}
 use Rattle.locking.proofs.RowLaws.{IsLocked, locked-is, hit-has, locked-answer}
 use Rattle.locking.proofs.StayLaws.{Takes, by-change, by-flush, policy-stays, match-stays}

@@ -1,5 +1,5 @@
 -- Locked lines, shown.
-pub mod Reached
+pub mod WordFits
 pub mod FitLaws
 pub mod RowLaws
 pub mod OnceLaws

@@ -16,7 +16,8 @@ use Rattle.steps.specs.Run.{finally}
 use Rattle.steps.specs.Fresh.{fresh}
 use Rattle.locking.specs.Locked.{isLocked}
 use Rattle.locking.specs.Locking.{Stands, Unspent, rest, Unsteered, Locking}
-use Rattle.locking.proofs.Reached.{Reached, run-reached, reached-whole}
+use Rattle.reached.specs.Reached.{Reached}
+use Rattle.reached.proofs.Reached.{run-reached, reached-whole}
 use Rattle.locking.proofs.HoldLaws.{stays-over, hits-over}
 use Rattle.locking.proofs.NearLaws.{Near}
 use Rattle.locking.proofs.SteerLaws.{along}

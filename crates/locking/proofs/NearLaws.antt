@@ -46,11 +46,11 @@ use Rattle.steps.proofs.StateLaws.{
   changed-row,
   changed-same,
 }
-use Rattle.isolation.proofs.Relation.{Separate}
-use Rattle.isolation.proofs.LineUnwinding.{policy-cut}
+use Rattle.reached.proofs.SeparateLaws.{policy-cut}
 use Rattle.locking.specs.Locked.{locked, SameUnlocked}
 use Rattle.locking.specs.Locking.{SameButHits}
-use Rattle.locking.proofs.Reached.{rule}
+use Rattle.reached.specs.Reached.{Separate}
+use Rattle.locking.proofs.WordFits.{rule}
 use Rattle.locking.proofs.RowLaws.{own-access, own-flush, around}
 use Rattle.locking.proofs.OtherLaws.{Leaves}
 use Rattle.locking.proofs.StayLaws.{unmoved}

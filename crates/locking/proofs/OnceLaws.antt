@@ -37,10 +37,12 @@ use Rattle.steps.proofs.SetLaws.{row-long}
 use Rattle.steps.proofs.StateLaws.{line-policy, line-row, line-row-other, changed-policy, changed-policy-other, changed-row}
 use Rattle.steps.proofs.DidLaws.{Did, turned-down, used, changed, did}
 use Rattle.steps.proofs.RunLaws.{Kept, worked, worked-long, inside}
-use Rattle.isolation.proofs.LineUnwinding.{policy-cut}
+use Rattle.reached.proofs.SeparateLaws.{policy-cut}
 use Rattle.locking.specs.Once.{Has, OnceIn, Once}
 use Rattle.locking.proofs.RowLaws.{has-hit}
-use Rattle.locking.proofs.Reached.{Reached, run-reached, step-reached, rule, reached-kept, reached-separate}
+use Rattle.reached.specs.Reached.{Reached}
+use Rattle.reached.proofs.Reached.{run-reached, step-reached, reached-kept, reached-separate}
+use Rattle.locking.proofs.WordFits.{rule}
 
 -- ---- one row
 

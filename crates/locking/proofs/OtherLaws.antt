@@ -24,10 +24,10 @@ use Rattle.steps.specs.Step.{State, rowEffect, useLine}
 use Rattle.steps.specs.Inside.{Whole, lineWork}
 use Rattle.steps.proofs.SetLaws.{row-long}
 use Rattle.steps.proofs.StateLaws.{work-long, line-whole, line-domain-other, line-policy, line-row, line-row-other}
-use Rattle.isolation.proofs.Relation.{Separate}
 use Rattle.isolation.proofs.RowUnwinding.{own-unheld, own-unwritten}
-use Rattle.isolation.proofs.LineUnwinding.{policy-cut}
-use Rattle.locking.proofs.Reached.{rule}
+use Rattle.reached.proofs.SeparateLaws.{policy-cut}
+use Rattle.reached.specs.Reached.{Separate}
+use Rattle.locking.proofs.WordFits.{rule}
 
 -- State t is to domain d what s was: the policies, its record, and in every set what it sees.
 pub record Leaves (g : Geometry) (d : ℕ) (t s : State) : Type 0 where

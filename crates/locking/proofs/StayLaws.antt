@@ -35,10 +35,11 @@ use Rattle.steps.proofs.RunLaws.{Kept, worked, worked-long}
 use Rattle.steps.proofs.StateLaws.{line-policy, line-row, line-row-other, changed-policy, changed-policy-other, changed-row}
 use Rattle.steps.proofs.DidLaws.{Did, turned-down, used, changed, did}
 use Rattle.isolation.specs.StruckOut.{numberOf}
-use Rattle.isolation.proofs.Relation.{Separate}
 use Rattle.isolation.proofs.RowUnwinding.{own-unheld}
-use Rattle.isolation.proofs.LineUnwinding.{policy-cut}
-use Rattle.locking.proofs.Reached.{Reached, step-reached, rule, reached-kept, reached-separate}
+use Rattle.reached.proofs.SeparateLaws.{policy-cut}
+use Rattle.reached.specs.Reached.{Reached, Separate}
+use Rattle.reached.proofs.Reached.{step-reached, reached-kept, reached-separate}
+use Rattle.locking.proofs.WordFits.{rule}
 use Rattle.locking.proofs.OtherLaws.{other-leaves}
 
 -- ---- an access, a flush or a policy change that is done has no refusal's number

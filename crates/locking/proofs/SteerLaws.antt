@@ -33,13 +33,14 @@ use Rattle.steps.proofs.SetLaws.{row-long}
 use Rattle.steps.proofs.StateLaws.{step-beyond, step-within}
 use Rattle.steps.proofs.DidLaws.{Did, turned-down, used, changed, did}
 use Rattle.isolation.specs.StruckOut.{answersTo, ownAnswers, numberOf}
-use Rattle.isolation.proofs.Relation.{Separate}
-use Rattle.isolation.proofs.LineUnwinding.{policy-cut}
+use Rattle.reached.proofs.SeparateLaws.{policy-cut}
 use Rattle.purge.specs.Purge.{belongs}
 use Rattle.locking.specs.Once.{OnceIn}
 use Rattle.locking.specs.Locked.{locked, lockedIn, isLocked}
 use Rattle.locking.specs.Locking.{changes, flushes, Answered, Stands, Unspent, strike, toLocked, otherwise, rest}
-use Rattle.locking.proofs.Reached.{Reached, step-reached, rule, reached-separate, reached-fits}
+use Rattle.reached.specs.Reached.{Reached, Separate}
+use Rattle.reached.proofs.Reached.{step-reached, reached-separate}
+use Rattle.locking.proofs.WordFits.{rule, reached-fits}
 use Rattle.locking.proofs.FitLaws.{hits-fit}
 use Rattle.locking.proofs.OnceLaws.{reached-once}
 use Rattle.locking.proofs.RowLaws.{is-locked, hit-has, locked-answer, locked-steers}

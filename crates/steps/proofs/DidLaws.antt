@@ -11,12 +11,12 @@ use Rattle.command.specs.Command.{Command}
 use Rattle.command.specs.Kind.{kindOf}
 use Rattle.command.specs.declared.Answer.the-variants.{Refused}
 use Rattle.domains.specs.Domains.{domainOf, policies}
-use Rattle.verdict.specs.Refusal.{useRefusal, policyRefusal, refusalBy}
+use Rattle.verdict.specs.Refusal.{useRefusal, refusalBy}
 use Rattle.geometry.specs.Geometry.{within}
 use Rattle.geometry.specs.declared.Geometry.{Geometry}
 use Rattle.steps.specs.Step.{State, Outcome, answers, useLine, changePolicy, stepBy, decided}
 use Rattle.steps.specs.Run.{stepOn}
-use Rattle.steps.specs.Inside.{Whole, lineWork}
+use Rattle.steps.specs.Inside.{Whole, numberBy, changeNumber, lineWork}
 use Rattle.steps.proofs.StateLaws.{step-beyond, step-within}
 
 -- A step of kind 0 to 3 flushes where its kind is 3.
@@ -25,7 +25,7 @@ pub data Did (g : Geometry) (c : Command) (s : State) : Outcome → Type 0 where
   used : (flushes store : Bool) → c .domain < 16 → c .kind < 4 → eqb (c .kind) 3 ≡ flushes
       → useRefusal (policies (g .ways) (s .domains) (c .domain)) (domainOf (s .domains) (c .domain) .counts) ≡ 0
       → Did g c s (useLine g (lineWork flushes (ruleOf (g .rule) (g .ways)) store) (c .domain) (c .argument) s)
-  changed : c .domain < 16 → c .kind ≡ 16 → policyRefusal g (policies (g .ways) (s .domains)) (c .domain) (c .argument) ≡ 0
+  changed : c .domain < 16 → c .kind ≡ 16 → changeNumber g (c .domain) (c .argument) s ≡ 0
       → Did g c s (changePolicy g (c .domain) (c .argument) s)
 
 module _ (g : Geometry) (limits : within g ≡ true) (c : Command) (s : State) where
@@ -33,8 +33,8 @@ module _ (g : Geometry) (limits : within g ≡ true) (c : Command) (s : State) w
   unfolding decided
   decided-did n o f = cases (eqb n 0) (λ t. rw t (f (eqb-true n 0 t))) (λ t. rw t (turned-down n (eqb-false n 0 t)))
 
-  kind-did : c .domain < 16 → Did g c s (decided (refusalBy (kindOf (c .kind)) g (policies (g .ways) (s .domains))
-      (domainOf (s .domains) (c .domain) .counts) (c .domain) (c .argument)) (stepBy (kindOf (c .kind)) g (c .domain) (c .argument) s) s)
+  kind-did : c .domain < 16
+      → Did g c s (decided (numberBy (kindOf (c .kind)) g (c .domain) (c .argument) s) (stepBy (kindOf (c .kind)) g (c .domain) (c .argument) s) s)
   unfolding kindOf refusalBy stepBy
   kind-did low =
       cases (ltb (c .kind) 3)

@@ -19,7 +19,7 @@ use Rattle.command.specs.Command.{Command}
 use Rattle.command.specs.Kind.{Kind, access, flush, policy, unknown, kindOf}
 use Rattle.domains.specs.Domains.{noDomain, domainOf, mapsOf, policies, newDomain}
 use Rattle.domains.specs.declared.Domain.{Domain}
-use Rattle.verdict.specs.Refusal.{useRefusal, policyRefusal, refusalBy}
+use Rattle.verdict.specs.Refusal.{useRefusal, refusalBy}
 use Rattle.geometry.specs.Geometry.{within}
 use Rattle.geometry.specs.Address.{setOf, tagOf}
 use Rattle.geometry.specs.Inside.{Limited}
@@ -29,7 +29,7 @@ use Rattle.steps.specs.Tables.{rowAt}
 use Rattle.steps.specs.Step.{State, Outcome, onSet, rowEffect, useLine, changePolicy, stepBy, decided}
 use Rattle.steps.specs.Run.{stepOn, finally}
 use Rattle.steps.specs.Fresh.{freshTables, freshDomains, fresh}
-use Rattle.steps.specs.Inside.{Whole, lineWork}
+use Rattle.steps.specs.Inside.{Whole, numberBy, changeNumber, lineWork}
 use Rattle.steps.proofs.SetLaws.{row-long}
 use Rattle.steps.proofs.StateLaws.{
   step-beyond,
@@ -48,7 +48,7 @@ use Rattle.steps.proofs.StateLaws.{
 module _ (g : Geometry) (limits : within g ≡ true) (Q : State → Type 0) (whole : (s : State) → Q s → Whole g s)
     (line : (s : State) → Q s → (e : ℕ) → e < 16 → useRefusal (policies (g .ways) (s .domains) e) (domainOf (s .domains) e .counts) ≡ 0
     → (arg : ℕ) (flushes store : Bool) → Q (useLine g (lineWork flushes (ruleOf (g .rule) (g .ways)) store) e arg s .state))
-    (change : (s : State) → Q s → (e : ℕ) → e < 16 → (arg : ℕ) → policyRefusal g (policies (g .ways) (s .domains)) e arg ≡ 0
+    (change : (s : State) → Q s → (e : ℕ) → e < 16 → (arg : ℕ) → changeNumber g e arg s ≡ 0
     → Q (changePolicy g e arg s .state)) where
   -- a step that is turned down leaves what was there
   decided-lasts : (s : State) → Q s → (n : ℕ) (o : Outcome) → (n ≡ 0 → Q (o .state)) → Q (decided n o s .state)
@@ -56,14 +56,14 @@ module _ (g : Geometry) (limits : within g ≡ true) (Q : State → Type 0) (who
   decided-lasts s q n o f = cases (eqb n 0) (λ t. rw t (f (eqb-true n 0 t))) (λ t. rw t q)
 
   kind-lasts : (s : State) → Q s → (e : ℕ) → e < 16 → (arg : ℕ) (y : Kind)
-      → Q (decided (refusalBy y g (policies (g .ways) (s .domains)) (domainOf (s .domains) e .counts) e arg) (stepBy y g e arg s) s .state)
+      → Q (decided (numberBy y g e arg s) (stepBy y g e arg s) s .state)
   unfolding refusalBy stepBy
   kind-lasts s q e k arg (access store) = decided-lasts s q _ _ (λ z. line s q e k z arg false store)
   kind-lasts s q e k arg flush = decided-lasts s q _ _ (λ z. line s q e k z arg true false)
   kind-lasts s q e k arg policy = decided-lasts s q _ _ (λ z. change s q e k arg z)
   kind-lasts s q e k arg unknown = decided-lasts s q 4 _ (λ z. absurd (omega arith))
 
-  step-lasts : (c : Command) (s : State) → Q s → Q (stepOn g c s .state)
+  pub step-lasts : (c : Command) (s : State) → Q s → Q (stepOn g c s .state)
   step-lasts c s q =
       cases (leb 16 (c .domain))
       (λ t. rw (step-beyond g limits c s (whole s q) (leb-true 16 (c .domain) t)) q)
@@ -146,7 +146,7 @@ module _ (g : Geometry) (limits : within g ≡ true) where
               (line-maps g s (kept .whole) e k (setOf g arg) inside x long f) (kept .as-stored f);
         }
 
-    pub change-kept : policyRefusal g (policies (g .ways) (s .domains)) e arg ≡ 0 → Kept (changePolicy g e arg s .state)
+    pub change-kept : changeNumber g e arg s ≡ 0 → Kept (changePolicy g e arg s .state)
     unfolding newDomain
     change-kept z = record {
       whole = changed-whole g e k arg s (kept .whole);
@@ -161,7 +161,7 @@ module _ (g : Geometry) (limits : within g ≡ true) where
         new : asRead (g .ways) (mapsOf (domainOf (changePolicy g e arg s .state .domains) e)) ≡ mapsOf (domainOf (changePolicy g e arg s .state .domains) e)
         new =
             rw (changed-domain g e k arg s (kept .whole))
-            (good-maps (g .ways) arg (passed g (policies (g .ways) (s .domains)) e arg z .good))
+            (good-maps (g .ways) arg (passed g s e arg z .good))
 
   -- A run keeps it; so in a run from a fresh cache stored maps need no cutting.
   pub kept-lasts : (cs : List Command) (s : State) → Kept s → Kept (finally g cs s)

@@ -20,13 +20,13 @@ use Rattle.command.specs.Kind.{kindOf}
 use Rattle.command.specs.declared.Answer.the-variants.{Refused}
 use Rattle.domains.specs.Domains.{domainOf, mapsOf, policies, usedDomain, newDomain}
 use Rattle.domains.proofs.DomainLaws as DomainLaws
-use Rattle.verdict.specs.Refusal.{sharesWay, sharesNode, policyRefusal, refusalBy, refusal}
+use Rattle.verdict.specs.Refusal.{sharesWay, sharesNode, sharingRefusal, policyRefusal, refusal}
 use Rattle.geometry.specs.Geometry.{within, sized}
 use Rattle.geometry.specs.declared.Geometry.{Geometry}
 use Rattle.steps.specs.Tables.{lengths, rowAt}
 use Rattle.steps.specs.Step.{State, answers, onSet, changePolicy, stepBy, decided, step}
 use Rattle.steps.specs.Run.{stepOn}
-use Rattle.steps.specs.Inside.{Whole, lineWork}
+use Rattle.steps.specs.Inside.{Whole, numberBy, changeNumber, lineWork}
 use Rattle.steps.proofs.SetLaws.{put-shaped, row-put-same, row-put-other, each-shaped, each-row}
 
 -- ---- a step is decided by its domain and its kind
@@ -52,8 +52,8 @@ module _ (g : Geometry) (limits : within g ≡ true) (c : Command) (s : State) (
   step-beyond h = rw (limits, whole-sized g s w, le-leb 16 (c .domain) h)
 
   -- another's step is decided by its kind
-  pub step-within : c .domain < 16 → stepOn g c s ≡ decided (refusalBy (kindOf (c .kind)) g (policies (g .ways) (s .domains))
-      (domainOf (s .domains) (c .domain) .counts) (c .domain) (c .argument)) (stepBy (kindOf (c .kind)) g (c .domain) (c .argument) s) s
+  pub step-within : c .domain < 16
+      → stepOn g c s ≡ decided (numberBy (kindOf (c .kind)) g (c .domain) (c .argument) s) (stepBy (kindOf (c .kind)) g (c .domain) (c .argument) s) s
   unfolding step refusal
   step-within h = rw (limits, whole-sized g s w, lt-leb 16 (c .domain) h)
 
@@ -108,9 +108,10 @@ pub record Passed (g : Geometry) (policy : ℕ → Maps) (e arg : ℕ) : Type 0 
   pub ways-free : sharesWay policy e (newMaps arg) ≡ false
   pub nodes-free : sharesNode (ruleOf (g .rule) (g .ways)) policy e (newMaps arg) ≡ false
 
-pub passed : (g : Geometry) (policy : ℕ → Maps) (e arg : ℕ) → policyRefusal g policy e arg ≡ 0 → Passed g policy e arg
-unfolding policyRefusal
-passed g policy e arg z =
+pub passed : (g : Geometry) (s : State) (e arg : ℕ) → changeNumber g e arg s ≡ 0 → Passed g (policies (g .ways) (s .domains)) e arg
+unfolding policyRefusal sharingRefusal
+passed g s e arg z =
+    let policy = policies (g .ways) (s .domains) in
     cases (badArgument (g .ways) arg)
     (λ t. absurd (suc-ne-zero 4 (rw t at z)))
     (λ t. cases (sharesWay policy e (newMaps arg))

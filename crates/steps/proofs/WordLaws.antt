@@ -14,7 +14,6 @@ use Rattle.sweep.specs.Clean.{cleaned}
 use Rattle.policy.specs.declared.Maps.{Maps}
 use Rattle.command.specs.Command.{Command}
 use Rattle.domains.specs.Domains.{policies}
-use Rattle.verdict.specs.Refusal.{policyRefusal}
 use Rattle.geometry.specs.Geometry.{within}
 use Rattle.geometry.specs.Address.{setOf, tagOf}
 use Rattle.geometry.specs.declared.Geometry.{Geometry}
@@ -22,7 +21,7 @@ use Rattle.steps.specs.Tables.{rowAt}
 use Rattle.steps.specs.Step.{State, rowEffect, useLine, changePolicy}
 use Rattle.steps.specs.Run.{finally}
 use Rattle.steps.specs.Fresh.{freshTables, fresh}
-use Rattle.steps.specs.Inside.{lineWork}
+use Rattle.steps.specs.Inside.{changeNumber, lineWork}
 use Rattle.steps.proofs.StateLaws.{line-row, line-row-other, changed-row}
 use Rattle.steps.proofs.RunLaws.{run-lasts, Kept, fresh-kept, worked, worked-long, line-kept, change-kept, inside}
 
@@ -83,7 +82,7 @@ module _ (g : Geometry) (limits : within g ≡ true) (P : ℕ → Type 0) (lasti
       long : length (x .row .tags) ≡ g .ways
       long = worked-long g limits s (q .kept) e k arg flushes store
 
-  change-words : (s : State) → Words s → (e : ℕ) → e < 16 → (arg : ℕ) → policyRefusal g (policies (g .ways) (s .domains)) e arg ≡ 0
+  change-words : (s : State) → Words s → (e : ℕ) → e < 16 → (arg : ℕ) → changeNumber g e arg s ≡ 0
       → Words (changePolicy g e arg s .state)
   unfolding cleaned
   change-words s q e k arg z = record {

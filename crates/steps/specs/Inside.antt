@@ -7,6 +7,9 @@ use Rattle.replacement.specs.Rule.{Rule}
 use Rattle.row.specs.Row as Row
 use Rattle.row.specs.Row.{Row, Effect}
 use Rattle.policy.specs.declared.Maps.{Maps}
+use Rattle.command.specs.Kind.{Kind}
+use Rattle.domains.specs.Domains.{domainOf, policies}
+use Rattle.verdict.specs.Refusal.{policyRefusal, refusalBy}
 use Rattle.geometry.specs.Inside.{Limited}
 use Rattle.geometry.specs.declared.Geometry.{Geometry}
 use Rattle.steps.specs.Tables.{Tables}
@@ -24,6 +27,13 @@ pub record Shaped (g : Geometry) (t : Tables) : Type 0 where
 pub record Whole (g : Geometry) (s : State) : Type 0 where
   pub shaped : Shaped g (s .tables)
   pub sixteen : length (s .domains .records) ≡ 16
+
+-- The number by which a step of some kind is turned down in a state, and that of a change of policy; 0 for none.
+abbrev pub numberBy : Kind → Geometry → ℕ → ℕ → State → ℕ
+numberBy k g d arg s = refusalBy k g (policies (g .ways) (s .domains)) (domainOf (s .domains) d .counts) d arg
+
+abbrev pub changeNumber : Geometry → ℕ → ℕ → State → ℕ
+changeNumber g d arg s = policyRefusal g (policies (g .ways) (s .domains)) d arg
 
 -- An access or a flush, under a rule.
 abbrev pub lineWork : Bool → Rule → Bool → Maps → ℕ → Row → Effect

@@ -1,34 +1,36 @@
 -- The numbers by which a step is turned down.
-use mathlib.Core.Path.{_≡_, refl, sym, _∙_}
+use mathlib.Core.Path.{_≡_, refl, sym, ap, ap₂, _∙_}
 use mathlib.Core.Logic.{_⊎_, inl, inr}
 use mathlib.Core.List.{[], _∷_}
 use lib.ListN.{getD}
-use mathlib.Core.Bool.{Bool, true, false, cond, not, _&&_}
-use Prim.Native.Nat.{ℕ, _^_, _≤_, _<_}
+use mathlib.Core.Bool.{Bool, true, false, cond, not, _&&_, _||_}
+use Prim.Native.Nat.{ℕ, _+_, _^_, _≤_, _<_}
 use native.Mathlib.Nat.{suc-ne-zero, lt-of-le-of-lt}
 use native.Mathlib.Omega.{arith}
-use lib.Dec.{eqb, leb}
-use lib.Bits.{bitAnd, and-le-l}
+use native.Mathlib.Numerals.{add-one}
+use lib.Dec.{eqb, leb, lit<}
+use lib.Bits.{bitAnd, bitOr, and-le-l, or-lt}
 use borrow.Author.Tests.{le-leb, lt-leb, leb-false}
 use types.Run.{OneOf}
 use denote.Enum.Declared.{tagOf}
-use Rattle.waymap.specs.Bits.{bit, any, reaches}
+use Rattle.waymap.specs.Bits.{Bits, bit, word, any, reaches}
 use Rattle.waymap.proofs.Booleans.{cases}
-use Rattle.waymap.proofs.BitLaws.{bit-and}
-use Rattle.waymap.proofs.WayLaws.{any-ext, any-bits}
+use Rattle.waymap.proofs.BitLaws.{bit-none, bit-and, bit-or}
+use Rattle.waymap.proofs.WordLaws.{bit-word-in, from-bits}
+use Rattle.waymap.proofs.WayLaws.{any-ext, any-last, any-bits}
 use Rattle.replacement.specs.Rule.{ruleOf}
 use Rattle.replacement.specs.Calls.{answerOf, inLimits, sharesOf}
 use Rattle.replacement.specs.declared.Reply.{Reply}
 use Rattle.replacement.specs.declared.Reply.the-variants.{Way, Done, OutsideLimits, OutOfReach, SharedNode}
 use Rattle.replacement.proofs.Reply.{the-type}
 use Rattle.policy.specs.declared.Maps.{Maps}
-use Rattle.policy.proofs.ReadLaws.{fill-within}
+use Rattle.policy.proofs.ReadLaws.{hit-small, fill-within}
 use Rattle.command.proofs.KindLaws.{asked-policy, asked-unknown}
 use Rattle.geometry.proofs.GeometryLaws.{sizes-passed}
 use Rattle.geometry.specs.Geometry.{within, Lengths, sized, sizesOf}
 use Rattle.domains.specs.Domains.{noDomain, mapsOf, isFull}
 use Rattle.command.specs.Kind.{Kind, kindOf, kindIs}
-use Rattle.verdict.specs.Refusal.{useRefusal, policyRefusal, refusalBy, refusal}
+use Rattle.verdict.specs.Refusal.{heldElsewhere, useRefusal, policyRefusal, refusalBy, refusal}
 use Rattle.domains.specs.Calls.{readBy}
 use Rattle.geometry.specs.declared.Geometry.{Geometry}
 use Rattle.domains.specs.declared.Counts.{Counts}
@@ -38,11 +40,44 @@ use Rattle.command.specs.declared.Asked.the-variants as AskedIs
 use Rattle.command.specs.declared.LineUse.the-variants.{Load, Store, Flush}
 use Rattle.command.proofs.Asked as AskedType
 
--- ---- numbers 8 and 9, for one other domain
+-- ---- number 8
 
-pub common-is : (hit other : ℕ) → hit < 2 ^ 16 → not (eqb (bitAnd hit other) 0) ≡ any 16 (λ (w : ℕ). bit hit w && bit other w)
-common-is hit other h =
-    sym (any-bits 16 (bitAnd hit other) (lt-of-le-of-lt (and-le-l hit other) h)) ∙ any-ext 16 (λ i k. bit-and hit other i)
+-- The ways of the domains before e, gathered.
+pub record Holding (ways : ℕ) (all : Policies) (d held e : ℕ) : Type 0 where
+  pub within : e ≤ 16
+  pub small : held < 2 ^ 16
+  pub is : (w : ℕ) → bit held w ≡ any e (λ (i : ℕ). not (eqb d i) && bit (readBy ways all i .hit) w)
+
+pub none-held : (ways : ℕ) (all : Policies) (d : ℕ) → Holding ways all d 0 0
+unfolding any
+none-held ways all d = record { within = omega arith; small = lit< tt; is = bit-none }
+
+pub more-held : {ways : ℕ} {all : Policies} {d held e more : ℕ} → Holding ways all d held e → e < 16 → more ≡ cond (eqb d e) 0 (readBy ways all e .hit)
+    → Holding ways all d (bitOr held more) (e + 1)
+unfolding readBy
+more-held {ways} {all} {d} {held} {e} {more} l h q = record {
+  within = omega arith;
+  small = or-lt 16 held more (l .small) (cases (eqb d e) (λ t. rw (q, t) (lit< tt)) (λ t. rw (q, t) (hit-small ways (getD (all .maps) e (mapsOf noDomain)))));
+  is = λ w.
+      let here : bit more w ≡ (not (eqb d e) && bit (readBy ways all e .hit) w) =
+      cases (eqb d e) (λ t. rw (q, t) (bit-none w)) (λ t. rw (q, t)) in
+      bit-or held more w ∙ ap₂ _||_ (l .is w) here
+      ∙ rw (add-one e) (sym (any-last e (λ (i : ℕ). not (eqb d i) && bit (readBy ways all i .hit) w)));
+}
+
+pub all-held : {ways : ℕ} {all : Policies} {d held e : ℕ} → Holding ways all d held e → 16 ≤ e → held ≡ word 16 (heldElsewhere (readBy ways all) d)
+unfolding heldElsewhere
+all-held {ways} {all} {d} {held} {e} l h =
+    let last : e ≡ 16 = omega (arith, l .within) in
+    from-bits 16 (l .small) (λ w k. rw last at l .is w)
+
+-- a map has a way in common with the ways held elsewhere
+pub common-is : (hit held : ℕ) (f : Bits) → hit < 2 ^ 16 → held ≡ word 16 f → not (eqb (bitAnd hit held) 0) ≡ any 16 (λ (w : ℕ). bit hit w && f w)
+common-is hit held f h e =
+    sym (any-bits 16 (bitAnd hit held) (lt-of-le-of-lt (and-le-l hit held) h))
+    ∙ any-ext 16 (λ w k. bit-and hit held w ∙ ap (λ (b : Bool). bit hit w && b) (rw e (bit-word-in 16 f w k)))
+
+-- ---- number 9, for one other domain
 
 -- what the answer to a conflict says
 module _ (W rule fill other : ℕ) (limits : inLimits W rule ≡ true) (f : reaches W fill ≡ false) (o : reaches W other ≡ false) where

@@ -3,7 +3,7 @@
 use mathlib.Core.Bool.{Bool, cond, not, _&&_}
 use Prim.Native.Nat.{ℕ}
 use lib.Dec.{eqb, leb}
-use Rattle.waymap.specs.Bits.{bit, any}
+use Rattle.waymap.specs.Bits.{Bits, bit, any}
 use Rattle.replacement.specs.Rule.{Rule, ruleOf}
 use Rattle.command.specs.Kind.{Kind, access, flush, policy, unknown, kindOf}
 use Rattle.policy.specs.Policy.{newMaps, badArgument}
@@ -13,9 +13,13 @@ use Rattle.domains.specs.Domains.{maxDomains, isFull}
 use Rattle.geometry.specs.declared.Geometry.{Geometry}
 use Rattle.domains.specs.declared.Counts.{Counts}
 
+-- The ways that are in another domain's hit map.
+unfoldable pub heldElsewhere : (ℕ → Maps) → ℕ → Bits
+heldElsewhere policies d w = any maxDomains (λ e. not (eqb d e) && bit (policies e .hit) w)
+
 -- "8: policy whose hit map shares a way with another domain's."
 unfoldable pub sharesWay : (ℕ → Maps) → ℕ → Maps → Bool
-sharesWay policies d new = any maxDomains (λ e. not (eqb d e) && any 16 (λ w. bit (new .hit) w && bit (policies e .hit) w))
+sharesWay policies d new = any 16 (λ w. bit (new .hit) w && heldElsewhere policies d w)
 
 -- "9: policy under Tree-PLRU with a node free for it and for another domain."
 unfoldable pub sharesNode : Rule → (ℕ → Maps) → ℕ → Maps → Bool
@@ -25,10 +29,13 @@ sharesNode R policies d new = any maxDomains (λ e. not (eqb d e) && R .shares (
 unfoldable pub useRefusal : Maps → Counts → ℕ
 useRefusal p c = cond (eqb (p .hit) 0) 6 (cond (isFull c) 7 0)
 
+-- Numbers 8 and 9, which go by the policies alone.
+unfoldable pub sharingRefusal : Geometry → (ℕ → Maps) → ℕ → ℕ → ℕ
+sharingRefusal g policies d arg =
+    cond (sharesWay policies d (newMaps arg)) 8 (cond (sharesNode (ruleOf (g .rule) (g .ways)) policies d (newMaps arg)) 9 0)
+
 unfoldable pub policyRefusal : Geometry → (ℕ → Maps) → ℕ → ℕ → ℕ
-policyRefusal g policies d arg =
-    cond (badArgument (g .ways) arg) 5
-    (cond (sharesWay policies d (newMaps arg)) 8 (cond (sharesNode (ruleOf (g .rule) (g .ways)) policies d (newMaps arg)) 9 0))
+policyRefusal g policies d arg = cond (badArgument (g .ways) arg) 5 (sharingRefusal g policies d arg)
 
 unfoldable pub refusalBy : Kind → Geometry → (ℕ → Maps) → Counts → ℕ → ℕ → ℕ
 refusalBy (access store) g policies c d arg = useRefusal (policies d) c

@@ -5,14 +5,14 @@ use geometry::Geometry;
 use policy::Maps;
 use replacement::Reply;
 ghost use mathlib.Core.Path.{_≡_};
-ghost use mathlib.Core.Bool.{true, false, not, _&&_};
-ghost use Prim.Native.Nat.{ℕ, _<_};
+ghost use mathlib.Core.Bool.{true, false, cond, not, _&&_};
+ghost use Prim.Native.Nat.{_<_};
 ghost use lib.Dec.{eqb};
-ghost use Rattle.waymap.specs.Bits.{bit, any, reaches};
+ghost use Rattle.waymap.specs.Bits.{word, reaches};
 ghost use Rattle.replacement.specs.Rule.{ruleOf};
 ghost use Rattle.replacement.specs.Calls.{inLimits};
-ghost use Rattle.policy.specs.Policy.{asRead};
-ghost use Rattle.verdict.specs.Refusal.{sharesWay, sharesNode, useRefusal, policyRefusal};
+ghost use Rattle.policy.specs.Policy.{asRead, badArgument};
+ghost use Rattle.verdict.specs.Refusal.{heldElsewhere, sharesWay, sharesNode, useRefusal, sharingRefusal, policyRefusal};
 ghost use Rattle.domains.specs.Calls.{readBy};
 
 // A domain's policy as read.
@@ -37,17 +37,29 @@ pub fn line_refusal(ways: usize, stored: Maps, counts: Counts) -> usize
     0
 }
 
-// Whether another domain `e` has a way of the hit map.
-fn has_way(ways: usize, policies: Policies, d: usize, hit: u16, e: usize) -> bool
+// The ways of domain `e`'s hit map, none for domain `d` itself.
+fn ways_of(ways: usize, policies: Policies, d: usize, e: usize) -> u16
     requires { ⌜ e < 16 ⌝ }
-    requires { ⌜ hit < 65536 ⌝ }
-    ensures { λ r. ⌜ r ≡ (not (eqb d e) && any 16 (λ (w : ℕ). bit hit w && bit (readBy ways policies e .hit) w)) ⌝ }
+    ensures { λ r. ⌜ r ≡ cond (eqb d e) 0 (readBy ways policies e .hit) ⌝ }
 {
     if d == e {
-        return false;
+        return 0;
     }
     let other = read_by(ways, policies, e);
-    hit & other.hit != 0
+    other.hit
+}
+
+// The ways that other domains hold.
+pub fn held_elsewhere(ways: usize, policies: Policies, d: usize) -> u16
+    ensures { λ r. ⌜ r ≡ word 16 (heldElsewhere (readBy ways policies) d) ⌝ }
+{
+    let mut held = 0;
+    let mut e = 0;
+    while e < 16 {
+        held = held | ways_of(ways, policies, d, e);
+        e += 1;
+    }
+    held
 }
 
 // Number 8.
@@ -55,15 +67,7 @@ fn shares_way(ways: usize, policies: Policies, d: usize, new: Maps) -> bool
     requires { ⌜ new .hit < 65536 ⌝ }
     ensures { λ r. ⌜ r ≡ sharesWay (readBy ways policies) d new ⌝ }
 {
-    let hit = new.hit;
-    let mut e = 0;
-    while e < 16 {
-        if has_way(ways, policies, d, hit, e) {
-            return true;
-        }
-        e += 1;
-    }
-    false
+    new.hit & held_elsewhere(ways, policies, d) != 0
 }
 
 // Whether another domain `e` has a node of the fill map.
@@ -101,14 +105,12 @@ fn shares_node(g: Geometry, policies: Policies, d: usize, new: Maps) -> bool
     false
 }
 
-// Numbers 5, 8 and 9, within the limits; 0 for none.
-pub fn change_refusal(g: Geometry, policies: Policies, d: usize, argument: u64) -> usize
+// Numbers 8 and 9, within the limits; 0 for neither.
+fn sharing_refusal(g: Geometry, policies: Policies, d: usize, argument: u64) -> usize
     requires { ⌜ inLimits (g .ways) (g .rule) ≡ true ⌝ }
-    ensures { λ r. ⌜ r ≡ policyRefusal g (readBy (g .ways) policies) d argument ⌝ }
+    requires { ⌜ badArgument (g .ways) argument ≡ false ⌝ }
+    ensures { λ r. ⌜ r ≡ sharingRefusal g (readBy (g .ways) policies) d argument ⌝ }
 {
-    if policy::bad_argument(g.ways, argument) {
-        return 5;
-    }
     let new = policy::new_maps(argument);
     if shares_way(g.ways, policies, d, new) {
         return 8;
@@ -117,4 +119,15 @@ pub fn change_refusal(g: Geometry, policies: Policies, d: usize, argument: u64) 
         return 9;
     }
     0
+}
+
+// Numbers 5, 8 and 9, within the limits; 0 for none.
+pub fn change_refusal(g: Geometry, policies: Policies, d: usize, argument: u64) -> usize
+    requires { ⌜ inLimits (g .ways) (g .rule) ≡ true ⌝ }
+    ensures { λ r. ⌜ r ≡ policyRefusal g (readBy (g .ways) policies) d argument ⌝ }
+{
+    if policy::bad_argument(g.ways, argument) {
+        return 5;
+    }
+    sharing_refusal(g, policies, d, argument)
 }

@@ -1,6 +1,6 @@
 -- Whether some way passes a test, and the lowest that does; of a map, the test is its bit.
 use mathlib.Core.Path.{_≡_, refl, sym, ap, ap₂, _∙_}
-use mathlib.Core.Bool.{Bool, true, false, cond, not, _&&_, _||_, and-false, false≢true}
+use mathlib.Core.Bool.{Bool, true, false, cond, not, _&&_, _||_, and-false, or-false, or-assoc, false≢true}
 use Prim.Native.Nat.{ℕ, zero, suc, _+_, _/_, _^_, _≤_, _<_, zero-le, suc-le-suc}
 use native.Mathlib.Nat.{not-suc-le-zero, le-of-suc-le-suc, lt-of-lt-of-le, le-of-eq, zero-add, pow-suc}
 use native.Mathlib.Omega.{arith}
@@ -54,6 +54,12 @@ any-or zero p q = refl
 any-or (suc n) p q =
     ap (λ (r : Bool). p 0 || q 0 || r) (any-or n (λ (i : ℕ). p (suc i)) (λ (i : ℕ). q (suc i)))
     ∙ or-interchange (p 0) (q 0) (any n (λ (i : ℕ). p (suc i))) (any n (λ (i : ℕ). q (suc i)))
+
+-- the last one apart
+pub any-last : (n : ℕ) (p : Bits) → any (suc n) p ≡ (any n p || p n)
+unfolding any
+any-last zero p = or-false (p 0)
+any-last (suc n) p = ap (λ (r : Bool). p 0 || r) (any-last n (λ (i : ℕ). p (suc i))) ∙ sym (or-assoc (p 0) (any n (λ (i : ℕ). p (suc i))) (p (suc n)))
 
 -- the test of one way
 pub any-one : (n : ℕ) (p : Bits) (v : ℕ) → v < n → any n (λ (i : ℕ). p i && eqb v i) ≡ p v

@@ -1,0 +1,32 @@
+-- The laws of the rule in use, and that every replacement word of a run has 64 bits.
+use mathlib.Core.Path.{_≡_, sym, subst}
+use mathlib.Core.Bool.{true}
+use Prim.Native.Nat.{ℕ, _^_, _<_}
+use Rattle.replacement.specs.Rule.{ruleOf}
+use Rattle.replacement.specs.Laws.{Laws}
+use Rattle.replacement.proofs.RuleLaws.{laws}
+use Rattle.geometry.specs.Geometry.{within}
+use Rattle.geometry.specs.declared.Geometry.{Geometry}
+use Rattle.geometry.proofs.GeometryLaws.{limited}
+use Rattle.steps.specs.Tables.{rowAt}
+use Rattle.steps.specs.Step.{State}
+use Rattle.steps.proofs.WordLaws.{Lasting, words-last}
+use Rattle.reached.specs.Reached.{Reached}
+
+module _ (g : Geometry) (limits : within g ≡ true) where
+  -- the laws of the rule in use
+  pub rule : Laws (g .ways) (ruleOf (g .rule) (g .ways))
+  rule = laws (g .rule) (g .ways) (limited g limits .most-ways)
+
+  words : Lasting (ruleOf (g .rule) (g .ways)) (λ (x : ℕ). x < 2 ^ 64)
+  words = record {
+    begins = rule .fresh-fits;
+    before = rule .before-fits;
+    touch = rule .touch-fits;
+    reset = rule .reset-fits;
+  }
+
+  pub reached-fits : (s : State) → Reached g s → (i : ℕ) → i < g .sets → rowAt (g .ways) i (s .tables) .word < 2 ^ 64
+  reached-fits s r i h =
+      subst (λ (t : State). rowAt (g .ways) i (t .tables) .word < 2 ^ 64) (sym (r .is))
+      (words-last g limits (λ (x : ℕ). x < 2 ^ 64) words (r .past) i h)

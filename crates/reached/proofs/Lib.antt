@@ -1,0 +1,3 @@
+-- What every state that a run reaches keeps, shown.
+pub mod SeparateLaws
+pub mod Reached

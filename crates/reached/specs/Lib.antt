@@ -1,0 +1,2 @@
+-- The states that a run from a fresh cache reaches.
+pub mod Reached
