@@ -1,8 +1,11 @@
 -- A step of one domain: turned down, or done.
 use mathlib.Core.Path.{_≡_, sym, ap, _∙_}
-use mathlib.Core.Bool.{false}
+use mathlib.Core.Bool.{false, cond}
 use Prim.Native.Nat.{ℕ}
 use borrow.Author.Tests.{ne-eqb}
+use Rattle.waymap.specs.Bits.{Bits}
+use Rattle.replacement.specs.Calls.{inLimits}
+use Rattle.row.specs.Row.{linesIn}
 use Rattle.policy.specs.Policy.{asRead, newMaps}
 use Rattle.sweep.specs.Clean.{dropped}
 use Rattle.sweep.specs.Sweep.{sweepOf}
@@ -11,19 +14,23 @@ use Rattle.command.specs.declared.Answer.{Answer}
 use Rattle.command.specs.declared.LineUse.{LineUse}
 use Rattle.command.specs.declared.Answer.the-variants.{Policy, Refused}
 use Rattle.sweep.specs.declared.Sweep.{Sweep}
-use Rattle.domains.specs.Domains.{mapsOf, isFull, newDomain, usedDomain}
-use Rattle.verdict.specs.Refusal.{useRefusal}
+use Rattle.domains.specs.Domains.{mapsOf, isFull, overflows, newDomain, usedDomain}
+use Rattle.domains.specs.Calls.{readBy}
+use Rattle.verdict.specs.Refusal.{useRefusal, policyRefusal}
 use Rattle.verdict.specs.Calls.{policyRefusalOf}
 use Rattle.geometry.specs.declared.Geometry.{Geometry}
 use Rattle.domains.specs.declared.Domain.{Domain}
 use Rattle.domains.specs.declared.Policies.{Policies}
 use Rattle.verdict.proofs.RefusalLaws.{not-full}
-use Rattle.steps.specs.Tables.{Tables}
+use Rattle.verdict.proofs.PolicyLaws.{policy-passed, drops-judged}
+use Rattle.steps.specs.Tables.{Tables, total}
 use Rattle.steps.specs.Inside.{Shaped}
-use Rattle.cache.specs.Inside.{Work, RowWork, workAt, AllSwept, Deed, deedOf, unless, lineDeed, policyDeed}
+use Rattle.steps.proofs.DropLaws.{drop-ways-all}
+use Rattle.cache.specs.Inside.{Work, RowWork, workAt, AllSwept, Deed, deedOf, unless, lineDeed, dropMap, dropsAmong, dropsBy, policyDeed}
 use Rattle.cache.specs.declared.account.Used.{Used}
 use Rattle.sweep.specs.declared.Drops.{Drops}
 use Rattle.cache.proofs.SweepLaws.{all-clean}
+use Rattle.cache.proofs.JudgeLaws.{drops-are}
 
 down : {n m : ℕ} {u : Used} (x : Domain) (t : Tables) (done : Deed) → n ≡ m → (n ≡ 0 → ⊥) → u ≡ record { answer = Refused n; own = x }
     → deedOf u t ≡ unless m x t done
@@ -55,17 +62,43 @@ module _ (g : Geometry) (x : Domain) (y : LineUse) (arg : ℕ) (t : Tables)
 
 -- ---- a change of policy
 
-module _ (g : Geometry) (x : Domain) (p : Policies) (d arg : ℕ) (t : Tables) {n : ℕ} (e : n ≡ policyRefusalOf g p d arg) where
+module _ (g : Geometry) (x : Domain) (p : Policies) (d arg : ℕ) (t : Tables) {n : ℕ} (drops : ℕ) (shaped : Shaped g t)
+    (judged : overflows arg drops (x .counts) ≡ overflows arg (dropsAmong (g .ways) (mapsOf x) p d arg (t .valid)) (x .counts))
+    (e : n ≡ policyRefusalOf g p (x .counts) drops d arg) where
+  -- the verdict on the drops as they are
+  number-is : n ≡ policyRefusalOf g p (x .counts) (dropsBy g x p d arg t) d arg
+  unfolding policyRefusalOf
+  number-is =
+      e
+      ∙ ap (λ (r : ℕ). cond (inLimits (g .ways) (g .rule)) r 1)
+      (drops-judged g (readBy (g .ways) p) (x .counts) drops (dropsBy g x p d arg t) d arg
+      (judged ∙ ap (λ (m : ℕ). overflows arg m (x .counts)) (drops-are g x p d arg t shaped)))
+
   pub policy-down : {u : Used} → (n ≡ 0 → ⊥) → u ≡ record { answer = Refused n; own = x } → deedOf u t ≡ policyDeed g x p d arg t
   unfolding policyDeed
-  policy-down z f = down x t _ e z f
+  policy-down z f = down x t _ number-is z f
 
-  pub policy-done : {new : Maps} {sweep : Sweep} {drops : Drops} {v : Tables} {u : Used} → Shaped g t → n ≡ 0 → new ≡ newMaps arg
-      → sweep ≡ sweepOf (g .ways) (g .rule) (mapsOf x) new → AllSwept g sweep (g .sets) t v (drops .dropped) (drops .dirty)
-      → u ≡ record { answer = Policy (drops .dropped) (drops .dirty); own = newDomain arg x } → deedOf u v ≡ policyDeed g x p d arg t
-  unfolding policyDeed
-  policy-done {new} {sweep} {drops} {v} h z m s a f =
-      let all = all-clean g (mapsOf x) (newMaps arg) t h a (s ∙ ap (sweepOf (g .ways) (g .rule) (mapsOf x)) m) in
-      done-is x t _ e z
-      (ap (λ (y : Used). deedOf y v) f
-      ∙ (λ i. record { answer = Policy (all .1 i) (all .2 i); own = newDomain arg x; tables = all .0 i }))
+  module _ {new : Maps} {sweep : Sweep} {done : Drops} {v : Tables} (z : n ≡ 0) (m : new ≡ newMaps arg)
+      (s : sweep ≡ sweepOf (g .ways) (g .rule) (mapsOf x) new) (a : AllSwept g sweep (g .sets) t v (done .dropped) (done .dirty)) where
+    -- what was dropped fits its count
+    pub policy-room : overflows arg (done .dropped) (x .counts) ≡ false
+    unfolding policyRefusalOf dropsBy dropMap dropped
+    policy-room =
+        let whole : policyRefusalOf g p (x .counts) (dropsBy g x p d arg t) d arg ≡ 0 = sym number-is ∙ z in
+        let number : policyRefusal g (readBy (g .ways) p) (x .counts) (dropsBy g x p d arg t) d arg ≡ 0 = rw (shaped .limited .limits) at whole in
+        let passes = policy-passed g (readBy (g .ways) p) (x .counts) (dropsBy g x p d arg t) d arg number in
+        let all = all-clean g (mapsOf x) (newMaps arg) t shaped a (s ∙ ap (sweepOf (g .ways) (g .rule) (mapsOf x)) m) in
+        ap (λ (k : ℕ). overflows arg k (x .counts))
+        (all .1
+        ∙ ap (λ (map : Bits). total (g .ways) (g .sets) (linesIn map) t)
+        (sym (drop-ways-all (g .ways) (readBy (g .ways) p) (asRead (g .ways) (mapsOf x)) d arg (passes .1 .ways-free))))
+        ∙ passes .0
+
+    pub policy-done : {u : Used} → u ≡ record { answer = Policy (done .dropped) (done .dirty); own = newDomain arg (done .dropped) x }
+        → deedOf u v ≡ policyDeed g x p d arg t
+    unfolding policyDeed
+    policy-done f =
+        let all = all-clean g (mapsOf x) (newMaps arg) t shaped a (s ∙ ap (sweepOf (g .ways) (g .rule) (mapsOf x)) m) in
+        done-is x t _ number-is z
+        (ap (λ (y : Used). deedOf y v) f
+        ∙ (λ i. record { answer = Policy (all .1 i) (all .2 i); own = newDomain arg (all .1 i) x; tables = all .0 i }))

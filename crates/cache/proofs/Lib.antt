@@ -2,6 +2,7 @@
 pub mod PlaceLaws
 pub mod RowLaws
 pub mod SweepLaws
+pub mod JudgeLaws
 pub mod StepLaws
 pub mod DeedLaws
 pub mod OutcomeLaws

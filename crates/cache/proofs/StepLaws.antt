@@ -1,5 +1,5 @@
 -- A step: what it gives, by what its tests find.
-use mathlib.Core.Path.{_≡_, refl, sym, ap, _∙_}
+use mathlib.Core.Path.{_≡_, refl, sym, ap, fun-ext, _∙_}
 use mathlib.Core.Bool.{true}
 use mathlib.Core.List.{List, [], _∷_}
 use Prim.Native.Nat.{ℕ, zero, suc, _/_, _<_}
@@ -9,13 +9,14 @@ use lib.Dec.{eqb}
 use lib.ListN.{length, getD, set}
 use borrow.Author.Tests.{ne-eqb}
 use denote.Enum.Declared.{tagOf as variantOf}
+use Rattle.waymap.specs.Bits.{Bits}
 use Rattle.waymap.proofs.Booleans.{cases}
 use Rattle.replacement.specs.Rule.{ruleOf}
 use Rattle.replacement.specs.Calls.{inLimits}
 use Rattle.replacement.proofs.CallLaws.{ways}
-use Rattle.row.specs.Row.{Row, Effect}
+use Rattle.row.specs.Row.{Row, Effect, linesIn}
 use Rattle.policy.specs.Policy.{asRead, newMaps}
-use Rattle.sweep.specs.Clean.{dropped, droppedDirty, cleaned}
+use Rattle.sweep.specs.Clean.{dropWays, dropped, droppedDirty, cleaned}
 use Rattle.row.specs.Calls.{accessOf, flushOf}
 use Rattle.policy.specs.declared.Maps.{Maps}
 use Rattle.command.specs.declared.Answer.{Answer}
@@ -38,13 +39,13 @@ use Rattle.command.proofs.Asked as AskedType
 use Rattle.geometry.proofs.GeometryLaws.{limited}
 use Rattle.command.proofs.KindLaws.{asked-policy}
 use Rattle.verdict.proofs.RefusalLaws.{by-line, by-policy, by-unknown}
-use Rattle.verdict.proofs.PolicyLaws.{read-policies}
+use Rattle.verdict.proofs.PolicyLaws.{read-policies, read-held}
 use Rattle.geometry.specs.Address.{setOf, tagOf}
 use Rattle.steps.specs.Tables.{Tables, lengths, rowAt, eachSet, total}
-use Rattle.steps.specs.Step.{State, Outcome, answers, onSet, rowEffect, useLine, changePolicy, stepBy, decided, step}
+use Rattle.steps.specs.Step.{State, Outcome, answers, onSet, rowEffect, useLine, droppedBy, changePolicy, dropsOf, stepBy, decided, step}
 use Rattle.cache.specs.Calls.{outcome}
 use Rattle.steps.specs.Inside.{Shaped, lineWork}
-use Rattle.cache.specs.Inside.{flushes, stores, Work, onRow, workOf, workAt, Deed, deedOf, unless, lineDeed, policyDeed}
+use Rattle.cache.specs.Inside.{flushes, stores, Work, onRow, workOf, workAt, Deed, deedOf, unless, lineDeed, dropMap, dropsBy, policyDeed}
 use Rattle.cache.specs.declared.Stepped.{Stepped}
 use Rattle.cache.specs.declared.account.Used.{Used}
 use Rattle.steps.proofs.SetLaws.{row-long}
@@ -85,6 +86,16 @@ module _ (g : Geometry) (d : ℕ) (y : LineUse) (arg : ℕ) (t : Tables) (ds : D
   unfolding workAt onRow useLine onSet effect
   line-done = ap (λ (e : Effect). onSet g d (setOf g arg) e before) effect-is
 
+-- ---- a change of policy
+
+-- the drops by the policies alone are those by the domains
+drops-read : (g : Geometry) (d arg : ℕ) (t : Tables) (ds : Domains)
+    → dropsBy g (domainOf ds d) (policiesOf ds) d arg t ≡ dropsOf g d arg (record { tables = t; domains = ds })
+unfolding dropsBy dropMap dropsOf policies
+drops-read g d arg t ds =
+    ap (λ (held : Bits). total (g .ways) (g .sets) (linesIn (dropWays (policies (g .ways) ds d) (asRead (g .ways) (newMaps arg)) held)) t)
+    (fun-ext (read-held (g .ways) ds d))
+
 -- ---- the step
 
 -- a domain's own record put back changes nothing
@@ -101,15 +112,19 @@ module _ (g : Geometry) (d kind arg : ℕ) (t : Tables) (ds : Domains) where
   abbrev found : State
   found = record { tables = t; domains = ds }
 
+  -- the step's number
+  abbrev stepNumber : ℕ
+  stepNumber = refusal g (lengths t) (policies (g .ways) ds) (domainOf ds d .counts) (dropsOf g d arg found) d kind arg
+
   -- what is turned down before a domain is looked at
-  pub step-refused : {n : ℕ} {r : Stepped} → n ≡ refusal g (lengths t) (policies (g .ways) ds) (domainOf ds d .counts) d kind arg → (n ≡ 0 → ⊥)
-      → r ≡ record { answer = Refused n; domains = ds } → outcome r t ≡ step g d kind arg found
+  pub step-refused : {n : ℕ} {r : Stepped} → n ≡ stepNumber → (n ≡ 0 → ⊥) → r ≡ record { answer = Refused n; domains = ds }
+      → outcome r t ≡ step g d kind arg found
   unfolding step
   step-refused e z f = ap (λ (x : Stepped). outcome x t) f ∙ rw (← e) (decided-no (stepBy (kindOf kind) g d arg found) found z)
 
   -- the domain's deed, put back: done where its number is 0, and else nothing moves
   step-done : {n : ℕ} {deed : Deed} (a : Answer) (x : Domain) (u : Tables)
-      → n ≡ refusal g (lengths t) (policies (g .ways) ds) (domainOf ds d .counts) d kind arg
+      → n ≡ stepNumber
       → answers a (record { tables = u; domains = putDomain d x ds }) ≡ stepBy (kindOf kind) g d arg found
       → deed ≡ unless n (domainOf ds d) t (record { answer = a; own = x; tables = u })
       → answers (deed .answer) (record { tables = deed .tables; domains = putDomain d (deed .own) ds }) ≡ step g d kind arg found
@@ -134,8 +149,10 @@ module _ (g : Geometry) (d kind arg : ℕ) (t : Tables) (ds : Domains) where
         w : Work
         w = workAt g y (mapsOf (domainOf ds d)) arg t
 
-        number : useRefusal (policies (g .ways) ds d) (domainOf ds d .counts) ≡ refusal g (lengths t) (policies (g .ways) ds) (domainOf ds d .counts) d kind arg
-        number = by-line g (lengths t) (policies (g .ways) ds) (domainOf ds d .counts) d kind arg e z q k l (ap (variantOf AskedType.the-type) is) refl
+        number : useRefusal (policies (g .ways) ds d) (domainOf ds d .counts) ≡ stepNumber
+        number =
+            by-line g (lengths t) (policies (g .ways) ds) (domainOf ds d .counts) (dropsOf g d arg found) d kind arg e z q k l
+            (ap (variantOf AskedType.the-type) is) refl
 
         kind-line : (y : LineUse) → useIs y ≡ kindOf kind
             → useLine g (lineWork (flushes y) (ruleOf (g .rule) (g .ways)) (stores y)) d arg found ≡ stepBy (kindOf kind) g d arg found
@@ -146,10 +163,10 @@ module _ (g : Geometry) (d kind arg : ℕ) (t : Tables) (ds : Domains) where
     pub step-policy : {p : Policies} {used : Used} {u : Tables} {r : Stepped} → variantOf AskedType.the-type q ≡ 1 → p ≡ policiesOf ds
         → deedOf used u ≡ policyDeed g (domainOf ds d) p d arg t
         → r ≡ record { answer = used .answer; domains = putDomain d (used .own) ds } → outcome r u ≡ step g d kind arg found
-    unfolding policyDeed policyRefusalOf stepBy changePolicy policies
+    unfolding policyDeed policyRefusalOf stepBy changePolicy droppedBy policies
     step-policy {p} {used} {u} {r} is o f b =
         ap (λ (x : Stepped). outcome x u) b
-        ∙ step-done (Policy (total W (g .sets) (dropped old new) t) (total W (g .sets) (droppedDirty old new) t)) (newDomain arg (domainOf ds d))
+        ∙ step-done (Policy n (total W (g .sets) (droppedDirty old new) t)) (newDomain arg n (domainOf ds d))
         (eachSet W (g .sets) (cleaned (ruleOf (g .rule) W) old new) t) number
         (ap (λ (x : Kind). stepBy x g d arg found) (asked-policy q is ∙ k)) f
       where
@@ -162,13 +179,26 @@ module _ (g : Geometry) (d kind arg : ℕ) (t : Tables) (ds : Domains) where
         new : Maps
         new = asRead W (newMaps arg)
 
-        verdict : policyRefusal g (policies W ds) d arg ≡ refusal g (lengths t) (policies W ds) (domainOf ds d .counts) d kind arg
-        verdict = by-policy g (lengths t) (policies W ds) (domainOf ds d .counts) d kind arg e z q k l is refl
+        n : ℕ
+        n = total W (g .sets) (dropped old new) t
 
-        number : policyRefusalOf g p d arg ≡ refusal g (lengths t) (policies W ds) (domainOf ds d .counts) d kind arg
-        number = ap (λ (x : Policies). policyRefusalOf g x d arg) o ∙ rw (h .limited .limits) (read-policies g ds d arg) ∙ verdict
+        own : Domain
+        own = domainOf ds d
+
+        -- the drops by the policies alone are those of the domains
+        drops : dropsBy g (domainOf ds d) (policiesOf ds) d arg t ≡ dropsOf g d arg found
+        drops = drops-read g d arg t ds
+
+        verdict : policyRefusal g (policies W ds) (own .counts) (dropsOf g d arg found) d arg ≡ stepNumber
+        verdict = by-policy g (lengths t) (policies W ds) (own .counts) (dropsOf g d arg found) d kind arg e z q k l is refl
+
+        number : policyRefusalOf g p (own .counts) (dropsBy g own p d arg t) d arg ≡ stepNumber
+        number =
+            ap (λ (x : Policies). policyRefusalOf g x (own .counts) (dropsBy g own x d arg t) d arg) o
+            ∙ rw (h .limited .limits, drops) (read-policies g ds (own .counts) (dropsOf g d arg found) d arg) ∙ verdict
 
   pub step-unknown : {r : Stepped} (q : Asked) → kindIs q ≡ kindOf kind → {m : ℕ} → m ≡ sizesOf g (lengths t) → m ≡ 0 → d < 16
       → variantOf AskedType.the-type q ≡ 2 → r ≡ record { answer = Refused 4; domains = ds } → outcome r t ≡ step g d kind arg found
   step-unknown q k e z l is f =
-      step-refused (by-unknown g (lengths t) (policies (g .ways) ds) (domainOf ds d .counts) d kind arg e z q k l is) (λ n. omega arith) f
+      step-refused (by-unknown g (lengths t) (policies (g .ways) ds) (domainOf ds d .counts) (dropsOf g d arg found) d kind arg e z q k l is)
+      (λ n. omega arith) f

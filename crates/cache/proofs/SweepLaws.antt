@@ -28,6 +28,7 @@ use Rattle.steps.specs.Tables.{Tables, rowAt, putRow, eachSet, total}
 use Rattle.steps.specs.Inside.{Shaped}
 use Rattle.cache.specs.Inside.{Work, RowWork, onRow, dropsOf, AllSwept}
 use Rattle.steps.proofs.SetLaws.{row-long, put-shaped, each-later}
+use Rattle.steps.proofs.TotalLaws.{total-ext}
 
 -- ---- one set
 
@@ -117,20 +118,13 @@ end g sweep before after {dropped} {dirt} {s} l k =
 
 -- ---- what was worked out once is what the rules say of every set
 
--- a change of every set, and a sum over them, go by what each row gives
+-- a change of every set goes by what each row gives
 each-ext : (g : Geometry) (t : Tables) (h : Shaped g t) (e f : Row → Row) → ((r : Row) → length (r .tags) ≡ g .ways → e r ≡ f r)
     → (n : ℕ) → n ≤ g .sets → eachSet (g .ways) n e t ≡ eachSet (g .ways) n f t
 unfolding eachSet
 each-ext g t h e f same zero le = refl
 each-ext g t h e f same (suc n) le =
     ap₂ (putRow (g .ways) n) (same (rowAt (g .ways) n t) (row-long g h n le)) (each-ext g t h e f same n (omega arith))
-
-total-ext : (g : Geometry) (t : Tables) (h : Shaped g t) (e f : Row → ℕ) → ((r : Row) → length (r .tags) ≡ g .ways → e r ≡ f r)
-    → (n : ℕ) → n ≤ g .sets → total (g .ways) n e t ≡ total (g .ways) n f t
-unfolding total
-total-ext g t h e f same zero le = refl
-total-ext g t h e f same (suc n) le =
-    ap₂ _+_ (total-ext g t h e f same n (omega arith)) (same (rowAt (g .ways) n t) (row-long g h n le))
 
 module _ (g : Geometry) (old new : Maps) (t : Tables) (h : Shaped g t) where
   abbrev was : Maps
@@ -162,11 +156,11 @@ module _ (g : Geometry) (old new : Maps) (t : Tables) (h : Shaped g t) where
       drops : n ≡ total (g .ways) (g .sets) (dropped was next) t
       drops =
           a .dropped-is
-          ∙ total-ext g t h (λ (r : Row). dropsOf sweep r .dropped) (dropped was next)
-          (λ r q. ap (λ (x : Effect). dropsIn (x .answer) .dropped) (is r q)) (g .sets) (omega arith)
+          ∙ total-ext (g .ways) (g .sets) (λ (r : Row). dropsOf sweep r .dropped) (dropped was next) t t
+          (λ i k. ap (λ (x : Effect). dropsIn (x .answer) .dropped) (is (rowAt (g .ways) i t) (row-long g h i k)))
 
       dirt : d ≡ total (g .ways) (g .sets) (droppedDirty was next) t
       dirt =
           a .dirty-is
-          ∙ total-ext g t h (λ (r : Row). dropsOf sweep r .dirty) (droppedDirty was next)
-          (λ r q. ap (λ (x : Effect). dropsIn (x .answer) .dirty) (is r q)) (g .sets) (omega arith)
+          ∙ total-ext (g .ways) (g .sets) (λ (r : Row). dropsOf sweep r .dirty) (droppedDirty was next) t t
+          (λ i k. ap (λ (x : Effect). dropsIn (x .answer) .dirty) (is (rowAt (g .ways) i t) (row-long g h i k)))

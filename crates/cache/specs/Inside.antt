@@ -1,15 +1,18 @@
 -- What the crate's inner functions go by: they are called within the limits, on tables of their lengths.
 use mathlib.Core.Path.{_≡_}
 use mathlib.Core.Bool.{Bool, true, false, cond}
+use mathlib.Core.List.{List}
 use Prim.Native.Nat.{ℕ, _+_, _*_, _≤_, _<_}
 use lib.Dec.{eqb}
 use Rattle.replacement.specs.Rule.{ruleOf}
-use Rattle.row.specs.Row.{Row, Effect}
+use Rattle.waymap.specs.Bits.{Bits}
+use Rattle.row.specs.Row.{Row, Effect, linesIn}
 use Rattle.policy.specs.Policy.{asRead, newMaps}
-use Rattle.sweep.specs.Clean.{dropped, droppedDirty, cleaned}
+use Rattle.sweep.specs.Clean.{dropWays, dropped, droppedDirty, cleaned}
 use Rattle.row.specs.Calls.{accessOf, flushOf}
 use Rattle.sweep.specs.Sweep.{sweepBy}
 use Rattle.sweep.specs.Drops.{dropsIn}
+use Rattle.sweep.specs.Number.{linesAmong}
 use Rattle.sweep.specs.declared.Sweep.{Sweep}
 use Rattle.policy.specs.declared.Maps.{Maps}
 use Rattle.command.specs.declared.Answer.{Answer}
@@ -17,8 +20,9 @@ use Rattle.command.specs.declared.Answer.the-variants.{Policy, Refused}
 use Rattle.command.specs.declared.LineUse.{LineUse}
 use Rattle.command.specs.declared.LineUse.the-variants.{Load, Store, Flush}
 use Rattle.domains.specs.Domains.{mapsOf, usedDomain, newDomain}
-use Rattle.verdict.specs.Refusal.{useRefusal}
+use Rattle.verdict.specs.Refusal.{heldElsewhere, useRefusal}
 use Rattle.verdict.specs.Calls.{policyRefusalOf}
+use Rattle.domains.specs.Calls.{readBy}
 use Rattle.domains.specs.declared.Domain.{Domain}
 use Rattle.domains.specs.declared.Policies.{Policies}
 use Rattle.geometry.specs.declared.Geometry.{Geometry}
@@ -101,14 +105,25 @@ lineDeed g x u arg t =
     unless (useRefusal (asRead (g .ways) (mapsOf x)) (x .counts)) x t
     (record { answer = w .answer; own = usedDomain (w .answer) x; tables = w .tables })
 
+-- The drops that number 7 looks at, from the valid maps and from the tables.
+unfoldable pub dropMap : ℕ → Maps → Policies → ℕ → ℕ → Bits
+dropMap W old p d arg = dropWays (asRead W old) (asRead W (newMaps arg)) (heldElsewhere (readBy W p) d)
+
+unfoldable pub dropsAmong : ℕ → Maps → Policies → ℕ → ℕ → List ℕ → ℕ
+dropsAmong W old p d arg valid = linesAmong (dropMap W old p d arg) valid
+
+unfoldable pub dropsBy : Geometry → Domain → Policies → ℕ → ℕ → Tables → ℕ
+dropsBy g x p d arg t = total (g .ways) (g .sets) (linesIn (dropMap (g .ways) (mapsOf x) p d arg)) t
+
 unfoldable pub policyDeed : Geometry → Domain → Policies → ℕ → ℕ → Tables → Deed
 policyDeed g x p d arg t =
     let W = g .ways in
     let old = asRead W (mapsOf x) in
     let new = asRead W (newMaps arg) in
-    unless (policyRefusalOf g p d arg) x t
+    let n = total W (g .sets) (dropped old new) t in
+    unless (policyRefusalOf g p (x .counts) (dropsBy g x p d arg t) d arg) x t
     (record {
-      answer = Policy (total W (g .sets) (dropped old new) t) (total W (g .sets) (droppedDirty old new) t);
-      own = newDomain arg x;
+      answer = Policy n (total W (g .sets) (droppedDirty old new) t);
+      own = newDomain arg n x;
       tables = eachSet W (g .sets) (cleaned (ruleOf (g .rule) W) old new) t;
     })

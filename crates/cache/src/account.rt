@@ -8,7 +8,7 @@ ghost use mathlib.Core.Path.{_≡_};
 ghost use mathlib.Core.Bool.{false};
 ghost use Prim.Native.Nat.{_<_};
 ghost use Rattle.command.specs.declared.Answer.the-variants.{Policy, Refused};
-ghost use Rattle.domains.specs.Domains.{isFull, putDomain, usedDomain, newDomain};
+ghost use Rattle.domains.specs.Domains.{isFull, overflows, putDomain, usedDomain, newDomain};
 
 // What a step answers, and the record of the domain after it.
 pub struct Used {
@@ -39,14 +39,15 @@ pub fn after_use(own: Domain, answer: Answer) -> Used
 
 // After a change of policy.
 pub fn after_change(own: Domain, argument: u64, drops: Drops) -> Used
-    ensures { λ r. ⌜ r ≡ record { answer = Policy (drops .dropped) (drops .dirty); own = newDomain argument own } ⌝ }
+    requires { ⌜ overflows argument (drops .dropped) (own .counts) ≡ false ⌝ }
+    ensures { λ r. ⌜ r ≡ record { answer = Policy (drops .dropped) (drops .dirty); own = newDomain argument (drops .dropped) own } ⌝ }
 {
     Used {
         answer: Answer::Policy {
             dropped: drops.dropped,
             dirty: drops.dirty,
         },
-        own: domains::changed(own, argument),
+        own: domains::changed(own, argument, drops.dropped),
     }
 }
 

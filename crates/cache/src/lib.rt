@@ -1,5 +1,6 @@
 // A set-associative cache whose domains each hold their own ways.
 mod account;
+mod judge;
 mod place;
 mod sets;
 mod work;

@@ -1,6 +1,7 @@
 // A step of one domain, given its own record: the verdict on it, and its work on the tables.
 use crate::account;
 use crate::account::Used;
+use crate::judge;
 use crate::sets;
 use command::LineUse;
 use domains::Domain;
@@ -58,14 +59,15 @@ pub fn policy(
         ≡ policyDeed g own policies domain argument
         (tablesOf (now (tags .entry)) (now (valid .entry)) (now (dirty .entry)) (now (words .entry))) ⌝ }
 {
-    let number = verdict::policy_refusal(g, policies, domain, argument);
-    if number != 0 {
-        return account::turned_down(number, own);
-    }
     let old = Maps {
         hit: own.hit,
         fill: own.fill,
     };
+    let drops = judge::drops(g.ways, valid, old, own.counts, policies, domain, argument);
+    let number = verdict::policy_refusal(g, policies, own.counts, drops, domain, argument);
+    if number != 0 {
+        return account::turned_down(number, own);
+    }
     let sweep = sweep::sweep_of(g.ways, g.rule, old, policy::new_maps(argument));
     let drops = sets::sweep_sets(g, tags, valid, dirty, words, sweep);
     account::after_change(own, argument, drops)

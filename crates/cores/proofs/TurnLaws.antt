@@ -18,7 +18,7 @@ use Rattle.selectors.specs.declared.Meaning as Meaning
 use Rattle.selectors.specs.declared.Meaning.{Meaning}
 use Rattle.selectors.specs.declared.Core.{Core}
 use Rattle.steps.specs.Tables.{lengths}
-use Rattle.steps.specs.Step.{State, Outcome, answers, decided, step}
+use Rattle.steps.specs.Step.{State, Outcome, answers, dropsOf, decided, step}
 use Rattle.steps.specs.Run.{stepOn}
 use Rattle.cores.specs.Step.{answerBy, cacheBy, lentRefusal}
 use Rattle.cores.specs.Calls.{Turn, turnOf, turnIs}
@@ -33,8 +33,8 @@ unfolding decided step
 unsized-step g c s h =
     let number = sizesOf g (lengths (s .tables)) in
     rw (
-      ← (by-sizes g (lengths (s .tables)) (policies (g .ways) (s .domains)) (domainOf (s .domains) (c .domain) .counts) (c .domain) (c .kind) (c .argument)
-          refl h),
+      ← (by-sizes g (lengths (s .tables)) (policies (g .ways) (s .domains)) (domainOf (s .domains) (c .domain) .counts)
+          (dropsOf g (c .domain) (c .argument) s) (c .domain) (c .kind) (c .argument) refl h),
       ne-eqb number 0 h,
     )
 

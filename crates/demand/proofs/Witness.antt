@@ -50,7 +50,7 @@ abbrev seenByZero : Seen
 seenByZero = record {
   answers = (6 ∷ 0 ∷ 0 ∷ []) ∷ (1 ∷ 0 ∷ []) ∷ (1 ∷ 2 ∷ []) ∷ (1 ∷ 0 ∷ []) ∷ (2 ∷ 0 ∷ 0 ∷ 1 ∷ []) ∷ (4 ∷ 0 ∷ 0 ∷ []) ∷ [];
   verdicts = refused 8 ∷ refused 9 ∷ accepted ∷ [];
-  domain = record { hit = 5; fill = 5; counts = record { hits = 0; misses = 4; evicted = 1; written = 1; flushed = 1 } };
+  domain = record { hit = 5; fill = 5; counts = record { hits = 0; misses = 4; evicted = 1; written = 1; flushed = 1; fills = 4; dropped = 0 } };
   lines = ((0 ∷ 0 ∷ 2 ∷ []) ∷ [] ∷ (1 ∷ 0 ∷ 1 ∷ []) ∷ [] ∷ []) ∷ ((1 ∷ 0 ∷ 0 ∷ []) ∷ [] ∷ (0 ∷ 0 ∷ 0 ∷ []) ∷ [] ∷ []) ∷ [];
   bits = ((1 ∷ []) ∷ [] ∷ [] ∷ [] ∷ []) ∷ ((1 ∷ []) ∷ [] ∷ [] ∷ [] ∷ []) ∷ [];
   pairs = replicate 2 (replicate 4 (replicate 4 []));
@@ -68,7 +68,7 @@ abbrev seenBriefly : Seen
 seenBriefly = record {
   answers = (6 ∷ 0 ∷ 0 ∷ []) ∷ (1 ∷ 0 ∷ []) ∷ [];
   verdicts = [];
-  domain = record { hit = 1; fill = 1; counts = record { hits = 0; misses = 1; evicted = 0; written = 0; flushed = 0 } };
+  domain = record { hit = 1; fill = 1; counts = record { hits = 0; misses = 1; evicted = 0; written = 0; flushed = 0; fills = 1; dropped = 0 } };
   lines = ((1 ∷ 1 ∷ 0 ∷ []) ∷ [] ∷ []) ∷ [];
   bits = ((0 ∷ []) ∷ [] ∷ []) ∷ [];
   pairs = replicate 1 (replicate 2 (replicate 2 []));
@@ -88,7 +88,7 @@ abbrev seenInTurn : Seen
 seenInTurn = record {
   answers = (6 ∷ 0 ∷ 0 ∷ []) ∷ (1 ∷ 0 ∷ []) ∷ (1 ∷ 2 ∷ []) ∷ (0 ∷ 0 ∷ []) ∷ [];
   verdicts = accepted ∷ [];
-  domain = record { hit = 5; fill = 5; counts = record { hits = 1; misses = 2; evicted = 0; written = 0; flushed = 0 } };
+  domain = record { hit = 5; fill = 5; counts = record { hits = 1; misses = 2; evicted = 0; written = 0; flushed = 0; fills = 2; dropped = 0 } };
   lines = ((1 ∷ 0 ∷ 0 ∷ []) ∷ [] ∷ (1 ∷ 0 ∷ 1 ∷ []) ∷ [] ∷ []) ∷ [];
   bits = replicate 1 (replicate 4 []);
   pairs =

@@ -31,7 +31,11 @@ pub record Limits (g : Geometry) : Type 0 where
 
 -- A domain without ways and counts.
 abbrev pub emptyDomain : Domain
-emptyDomain = record { hit = 0; fill = 0; counts = record { hits = 0; misses = 0; evicted = 0; written = 0; flushed = 0 } }
+emptyDomain = record {
+  hit = 0;
+  fill = 0;
+  counts = record { hits = 0; misses = 0; evicted = 0; written = 0; flushed = 0; fills = 0; dropped = 0 };
+}
 
 -- "Fresh: all zero, except that under NRU the low W bits of each replacement word are one", and under true LRU "place k holds way W − 1 − k".
 -- "All policies and counts are zero."

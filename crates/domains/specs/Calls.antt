@@ -6,7 +6,7 @@ use lib.ListN.{getD}
 use Rattle.policy.specs.Policy.{asRead}
 use Rattle.policy.specs.declared.Maps.{Maps}
 use Rattle.command.specs.declared.Answer.{Answer}
-use Rattle.domains.specs.Domains.{maxDomains, noDomain, domainOf, mapsOf, isFull, usedDomain}
+use Rattle.domains.specs.Domains.{maxDomains, noDomain, domainOf, mapsOf, isFull, overflows, usedDomain, newDomain}
 use Rattle.domains.specs.declared.Domain.{Domain}
 use Rattle.domains.specs.declared.Domains.{Domains}
 use Rattle.domains.specs.declared.Policies.{Policies}
@@ -26,3 +26,8 @@ readBy W p d = asRead W (getD (p .maps) d (mapsOf noDomain))
 -- A record after an access or a flush: one of which a count is full, to which number 7 lets no step come, stays as it is.
 unfoldable pub usedOf : Answer → Domain → Domain
 usedOf a x = cond (isFull (x .counts)) x (usedDomain a x)
+
+-- A record after a change of policy: one whose count of dropped lines it would carry past the largest, to which number 7 lets no such change
+-- come, stays as it is.
+unfoldable pub changedOf : ℕ → ℕ → Domain → Domain
+changedOf arg n x = cond (overflows arg n (x .counts)) x (newDomain arg n x)

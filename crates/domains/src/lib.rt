@@ -6,8 +6,14 @@ ghost use mathlib.Core.Bool.{false, cond};
 ghost use Prim.Native.Nat.{_+_, _<_};
 ghost use lib.Dec.{eqb};
 ghost use Rattle.waymap.specs.Bits.{digit};
-ghost use Rattle.domains.specs.Domains.{noCounts, isFull, counted as countedBy, newDomain};
-ghost use Rattle.domains.specs.Calls.{policiesOf, usedOf};
+ghost use Rattle.domains.specs.Domains.{
+  noCounts,
+  isFull,
+  overflows as overflowsBy,
+  counted as countedBy,
+  withDrops,
+};
+ghost use Rattle.domains.specs.Calls.{policiesOf, usedOf, changedOf};
 
 const LARGEST: u32 = 4_294_967_295;
 
@@ -19,6 +25,10 @@ pub struct Counts {
     // Lines written back.
     pub written: u32,
     pub flushed: u32,
+    // Lines filled, into an invalid way or an evicted one's.
+    pub fills: u32,
+    // Lines that the domain's own policy changes cleaned.
+    pub dropped: u32,
 }
 
 // A domain's hit map, fill map and counts.
@@ -71,7 +81,31 @@ pub fn is_full(c: Counts) -> bool
     if c.written == LARGEST {
         return true;
     }
-    c.flushed == LARGEST
+    if c.flushed == LARGEST {
+        return true;
+    }
+    if c.fills == LARGEST {
+        return true;
+    }
+    c.dropped == LARGEST
+}
+
+// Whether an argument removes the domain.
+fn removes(argument: u64) -> bool
+    ensures { λ r. ⌜ r ≡ eqb argument 0 ⌝ }
+{
+    argument == 0
+}
+
+// Whether a change of policy, unless it removes the domain, would carry the count of dropped lines past the largest number.
+pub fn overflows(argument: u64, dropped: usize, c: Counts) -> bool
+    ensures { λ r. ⌜ r ≡ overflowsBy argument dropped c ⌝ }
+{
+    if removes(argument) {
+        return false;
+    }
+    let room = LARGEST - c.dropped;
+    (room as usize) < dropped
 }
 
 // One more where the line is dirty.
@@ -98,6 +132,7 @@ fn counted(answer: Answer, c: Counts) -> Counts
         }
         Answer::Fill(_way) => {
             next.misses = c.misses + 1;
+            next.fills = c.fills + 1;
             next
         }
         Answer::Pass => {
@@ -112,6 +147,8 @@ fn counted(answer: Answer, c: Counts) -> Counts
             next.misses = c.misses + 1;
             next.evicted = c.evicted + 1;
             next.written = with_dirty(c.written, dirty);
+            let fills = c.fills + 1;
+            next.fills = fills;
             next
         }
         Answer::Flush { way: _, dirty } => {
@@ -123,20 +160,25 @@ fn counted(answer: Answer, c: Counts) -> Counts
     }
 }
 
-// The counts after a change of policy: zero after argument 0, which removes the domain.
-fn kept(c: Counts, argument: u64) -> Counts
-    ensures { λ r. ⌜ r ≡ cond (eqb argument 0) noCounts c ⌝ }
+// The counts after a change of policy that dropped some lines: zero after argument 0, which removes the domain.
+fn kept(c: Counts, argument: u64, dropped: usize) -> Counts
+    requires { ⌜ overflowsBy argument dropped c ≡ false ⌝ }
+    ensures { λ r. ⌜ r ≡ cond (eqb argument 0) noCounts (withDrops dropped c) ⌝ }
 {
-    if argument == 0 {
+    if removes(argument) {
         return Counts {
             hits: 0,
             misses: 0,
             evicted: 0,
             written: 0,
             flushed: 0,
+            fills: 0,
+            dropped: 0,
         };
     }
-    c
+    let mut next = c;
+    next.dropped = c.dropped + dropped as u32;
+    next
 }
 
 // A domain's record after an access or a flush.
@@ -153,14 +195,17 @@ pub fn used(own: Domain, answer: Answer) -> Domain
     }
 }
 
-// A domain's record after a change of policy.
-pub fn changed(own: Domain, argument: u64) -> Domain
-    ensures { λ r. ⌜ r ≡ newDomain argument own ⌝ }
+// A domain's record after a change of policy that dropped some lines.
+pub fn changed(own: Domain, argument: u64, dropped: usize) -> Domain
+    ensures { λ r. ⌜ r ≡ changedOf argument dropped own ⌝ }
 {
+    if overflows(argument, dropped, own.counts) {
+        return own;
+    }
     let new = policy::new_maps(argument);
     Domain {
         hit: new.hit,
         fill: new.fill,
-        counts: kept(own.counts, argument),
+        counts: kept(own.counts, argument, dropped),
     }
 }

@@ -47,6 +47,8 @@ pub fn fresh_domains() -> Domains
             evicted: 0,
             written: 0,
             flushed: 0,
+            fills: 0,
+            dropped: 0,
         },
     };
     Domains {

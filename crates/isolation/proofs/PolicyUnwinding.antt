@@ -1,13 +1,11 @@
 -- The relation on whole states: changes of policy.
-use mathlib.Core.Path.{_≡_, refl, sym, ap, ap₂, subst, _∙_}
+use mathlib.Core.Path.{_≡_, sym, ap₂, subst, _∙_}
 use mathlib.Core.Bool.{true}
-use Prim.Native.Nat.{ℕ, zero, suc, _<_, _+_}
-use native.Mathlib.Omega.{arith}
+use Prim.Native.Nat.{ℕ, _<_}
 use lib.Dec.{eqb}
 use borrow.Author.Tests.{eqb-true, eqb-false}
 use Rattle.waymap.specs.Bits.{bit}
 use Rattle.waymap.proofs.Booleans.{cases, not-both}
-use Rattle.row.specs.Row.{Row}
 use Rattle.policy.specs.Policy.{asRead, newMaps}
 use Rattle.sweep.specs.Clean.{dropped, droppedDirty}
 use Rattle.command.specs.Answer.{answerOf}
@@ -18,22 +16,17 @@ use Rattle.geometry.specs.Geometry.{within}
 use Rattle.geometry.specs.Inside.{Limited}
 use Rattle.geometry.specs.declared.Geometry.{Geometry}
 use Rattle.geometry.proofs.GeometryLaws.{limited}
-use Rattle.steps.specs.Tables.{Tables, rowAt, total}
-use Rattle.steps.specs.Step.{State, changePolicy}
+use Rattle.steps.specs.Tables.{rowAt}
+use Rattle.steps.specs.Step.{State, droppedBy, changePolicy}
 use Rattle.steps.specs.Inside.{Whole, changeNumber}
 use Rattle.steps.proofs.SetLaws.{row-long}
+use Rattle.steps.proofs.TotalLaws.{total-ext}
 use Rattle.steps.proofs.StateLaws.{passed, changed-domain, changed-other, changed-policy, changed-policy-other, changed-row, changed-same}
 use Rattle.reached.specs.Reached.{Separate}
 use Rattle.reached.proofs.SeparateLaws.{policy-cut, new-apart}
 use Rattle.reached.proofs.Reached.{reached-whole, reached-separate}
 use Rattle.isolation.proofs.Relation.{Unheld, Tied, Related}
 use Rattle.isolation.proofs.RowUnwinding.{clean-alike, own-drops}
-
--- two sums over the sets are equal where their parts are
-total-same : (W n : ℕ) (f : Row → ℕ) (t u : Tables) → ((s : ℕ) → s < n → f (rowAt W s t) ≡ f (rowAt W s u)) → total W n f t ≡ total W n f u
-unfolding total
-total-same W zero f t u e = refl
-total-same W (suc n) f t u e = ap₂ _+_ (total-same W n f t u (λ s h. e s (omega arith))) (e n (omega arith))
 
 -- ---- the state after a change of policy
 
@@ -62,48 +55,58 @@ module _ (g : Geometry) (limits : within g ≡ true) (d : ℕ) (low : d < 16) (e
   abbrev next : Maps
   next = asRead (g .ways) (newMaps arg)
 
-  -- ---- the relation is kept
+  -- a change that is accepted, in both runs
+  module _ (z : changeNumber g e arg a ≡ 0) where
+    -- ---- the domain's own drops the same lines
 
-  pub policy-tied : Tied g d (changePolicy g e arg a .state) (changePolicy g e arg b .state)
-  policy-tied = record {
-    policy-same = changed-same g e k arg a b whole-a whole-b (tied .policy-same);
-    domain-same =
-        cases (eqb d e)
-        (λ t. subst (λ (i : ℕ). domainOf (changePolicy g e arg a .state .domains) i ≡ domainOf (changePolicy g e arg b .state .domains) i)
-        (sym (eqb-true d e t))
-        (changed-domain g e k arg a whole-a
-        ∙ ap (newDomain arg) (subst (λ (i : ℕ). domainOf (a .domains) i ≡ domainOf (b .domains) i) (eqb-true d e t) (tied .domain-same))
-        ∙ sym (changed-domain g e k arg b whole-b)))
-        (λ t.
-        changed-other g e k arg a whole-a d (eqb-false d e t) ∙ tied .domain-same
-        ∙ sym (changed-other g e k arg b whole-b d (eqb-false d e t)));
-    alike = λ s h.
-        rw (changed-row g e k arg a whole-a s h, changed-row g e k arg b whole-b s h, ← (tied .policy-same e))
-        (clean-alike g l d low policy (policy-cut W (a .domains)) apart e k next
+    gains : e ≡ d → (w : ℕ) → bit (next .hit) w ≡ true → Unheld d policy w
+    gains own w t f hf n =
+        not-both (bit (next .hit) w) (bit (policy f .hit) w)
+        (new-apart g l policy (policy-cut W (a .domains)) e arg (passed g a e arg z) f hf (λ q. n (q ∙ own)) w) t
+
+    drops : e ≡ d → (s : ℕ) → s < g .sets
+        → (dropped (policy e) next (rowAt (g .ways) s (a .tables)) ≡ dropped (policy e) next (rowAt (g .ways) s (b .tables)))
+        × (droppedDirty (policy e) next (rowAt (g .ways) s (a .tables)) ≡ droppedDirty (policy e) next (rowAt (g .ways) s (b .tables)))
+    drops own s h =
+        own-drops g l d low policy (policy-cut W (a .domains)) apart e k next
         (policies (g .ways) (changePolicy g e arg a .state .domains)) (changed-policy g e k arg a whole-a)
-        (changed-policy-other g e k arg a whole-a) (rowAt (g .ways) s (a .tables)) (rowAt (g .ways) s (b .tables)) (tied .alike s h));
-  }
+        (changed-policy-other g e k arg a whole-a) (rowAt (g .ways) s (a .tables)) (rowAt (g .ways) s (b .tables)) (tied .alike s h) own (gains own)
+        (row-long g (whole-a .shaped) s h) (row-long g (whole-b .shaped) s h)
 
-  -- ---- and the domain's own change answers the same
+    dropped-same : e ≡ d → droppedBy g e arg a ≡ droppedBy g e arg b
+    unfolding droppedBy
+    dropped-same own =
+        rw (← (tied .policy-same e))
+        (total-ext W (g .sets) (dropped (policy e) next) (dropped (policy e) next) (a .tables) (b .tables) (λ s h. drops own s h .0))
 
-  pub policy-answer : changeNumber g e arg a ≡ 0 → e ≡ d → changePolicy g e arg a .answer ≡ changePolicy g e arg b .answer
-  unfolding changePolicy
-  policy-answer z own =
-      rw (← (tied .policy-same e))
-      (ap₂ (λ (x y : ℕ). answerOf (Policy x y))
-      (total-same W (g .sets) (dropped (policy e) next) (a .tables) (b .tables) (λ s h. drops s h .0))
-      (total-same W (g .sets) (droppedDirty (policy e) next) (a .tables) (b .tables) (λ s h. drops s h .1)))
-    where
-      gains : (w : ℕ) → bit (next .hit) w ≡ true → Unheld d policy w
-      gains w t f hf n =
-          not-both (bit (next .hit) w) (bit (policy f .hit) w)
-          (new-apart g l policy (policy-cut W (a .domains)) e arg (passed g a e arg z) f hf (λ q. n (q ∙ own)) w) t
+    pub policy-answer : e ≡ d → changePolicy g e arg a .answer ≡ changePolicy g e arg b .answer
+    unfolding changePolicy
+    policy-answer own =
+        ap₂ (λ (x y : ℕ). answerOf (Policy x y)) (dropped-same own)
+        (rw (← (tied .policy-same e))
+        (total-ext W (g .sets) (droppedDirty (policy e) next) (droppedDirty (policy e) next) (a .tables) (b .tables) (λ s h. drops own s h .1)))
 
-      drops : (s : ℕ) → s < g .sets
-          → (dropped (policy e) next (rowAt (g .ways) s (a .tables)) ≡ dropped (policy e) next (rowAt (g .ways) s (b .tables)))
-          × (droppedDirty (policy e) next (rowAt (g .ways) s (a .tables)) ≡ droppedDirty (policy e) next (rowAt (g .ways) s (b .tables)))
-      drops s h =
-          own-drops g l d low policy (policy-cut W (a .domains)) apart e k next
+    -- ---- and the relation is kept
+
+    own-record : e ≡ d → domainOf (changePolicy g e arg a .state .domains) e ≡ domainOf (changePolicy g e arg b .state .domains) e
+    own-record own =
+        changed-domain g e k arg a whole-a
+        ∙ ap₂ (newDomain arg) (dropped-same own) (subst (λ (i : ℕ). domainOf (a .domains) i ≡ domainOf (b .domains) i) (sym own) (tied .domain-same))
+        ∙ sym (changed-domain g e k arg b whole-b)
+
+    pub policy-tied : Tied g d (changePolicy g e arg a .state) (changePolicy g e arg b .state)
+    policy-tied = record {
+      policy-same = changed-same g e k arg a b whole-a whole-b (tied .policy-same);
+      domain-same =
+          cases (eqb d e)
+          (λ t. subst (λ (i : ℕ). domainOf (changePolicy g e arg a .state .domains) i ≡ domainOf (changePolicy g e arg b .state .domains) i)
+          (sym (eqb-true d e t)) (own-record (sym (eqb-true d e t))))
+          (λ t.
+          changed-other g e k arg a whole-a d (eqb-false d e t) ∙ tied .domain-same
+          ∙ sym (changed-other g e k arg b whole-b d (eqb-false d e t)));
+      alike = λ s h.
+          rw (changed-row g e k arg a whole-a s h, changed-row g e k arg b whole-b s h, ← (tied .policy-same e))
+          (clean-alike g l d low policy (policy-cut W (a .domains)) apart e k next
           (policies (g .ways) (changePolicy g e arg a .state .domains)) (changed-policy g e k arg a whole-a)
-          (changed-policy-other g e k arg a whole-a) (rowAt (g .ways) s (a .tables)) (rowAt (g .ways) s (b .tables)) (tied .alike s h) own gains
-          (row-long g (whole-a .shaped) s h) (row-long g (whole-b .shaped) s h)
+          (changed-policy-other g e k arg a whole-a) (rowAt (g .ways) s (a .tables)) (rowAt (g .ways) s (b .tables)) (tied .alike s h));
+    }

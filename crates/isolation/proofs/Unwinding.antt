@@ -1,5 +1,5 @@
 -- The unwinding lemmas of Goguen and Meseguer, for one step: `output-consistent`, `step-consistent` and `locally-respects`.
-use mathlib.Core.Path.{_≡_, refl, ap, fun-ext}
+use mathlib.Core.Path.{_≡_, refl, fun-ext}
 use mathlib.Core.Bool.{true, false}
 use Prim.Native.Nat.{ℕ, _≤_, _<_}
 use native.Mathlib.Omega.{arith}
@@ -7,12 +7,11 @@ use lib.Dec.{eqb, leb, ltb}
 use borrow.Author.Tests.{eqb-true, eqb-false, eq-eqb, ne-eqb, leb-true, leb-false, ltb-false, le-ltb}
 use Rattle.waymap.proofs.Booleans.{cases}
 use Rattle.replacement.specs.Rule.{ruleOf}
-use Rattle.policy.specs.declared.Maps.{Maps}
 use Rattle.command.specs.declared.Answer.the-variants.{Refused}
 use Rattle.geometry.specs.Geometry.{within}
 use Rattle.domains.specs.Domains.{domainOf, policies}
 use Rattle.command.specs.Kind.{Kind, access, flush, policy, unknown, kindOf}
-use Rattle.verdict.specs.Refusal.{useRefusal, policyRefusal, refusalBy}
+use Rattle.verdict.specs.Refusal.{useRefusal, refusalBy}
 use Rattle.geometry.specs.declared.Geometry.{Geometry}
 use Rattle.steps.specs.Step.{State, Outcome, answers, useLine, changePolicy, stepBy, decided}
 use Rattle.command.specs.Command.{Command}
@@ -22,7 +21,7 @@ use Rattle.steps.proofs.StateLaws.{step-beyond, step-within}
 use Rattle.purge.specs.Purge.{belongs, keeps}
 use Rattle.purge.proofs.KeepLaws.{struck, kept-kind}
 use Rattle.isolation.specs.StruckOut.{numberOf}
-use Rattle.reached.proofs.Reached.{step-reached, reached-whole}
+use Rattle.reached.proofs.Reached.{step-reached, reached-whole, number-same}
 use Rattle.isolation.proofs.Relation.{Tied, Related}
 use Rattle.isolation.proofs.LineUnwinding.{own-line, other-line}
 use Rattle.isolation.proofs.PolicyUnwinding.{policy-tied, policy-answer}
@@ -49,9 +48,10 @@ module _ (g : Geometry) (limits : within g ≡ true) (d : ℕ) (low : d < 16) wh
     policies-same : policies (g .ways) (a .domains) ≡ policies (g .ways) (b .domains)
     policies-same = fun-ext (rel .tied .policy-same)
 
-    -- a change of policy, of any domain, has the same number
-    change-number : (e arg : ℕ) → changeNumber g e arg a ≡ changeNumber g e arg b
-    change-number e arg = ap (λ (p : ℕ → Maps). policyRefusal g p e arg) policies-same
+    -- A change of policy, of any domain, has the same number. A neighbour's drops may differ; but neither run gives it number 7, and the other numbers
+    -- go by the policies.
+    change-number : (e : ℕ) → e < 16 → (arg : ℕ) → changeNumber g e arg a ≡ changeNumber g e arg b
+    change-number = number-same g limits a b (rel .reached-a) (rel .reached-b) (rel .tied .policy-same)
 
     -- ---- a step of the domain itself
 
@@ -67,9 +67,9 @@ module _ (g : Geometry) (limits : within g ≡ true) (d : ℕ) (low : d < 16) wh
         (both-decided (useRefusal (policies (g .ways) (a .domains) d) (domainOf (a .domains) d .counts)) _ _
         (λ z. let r = own-line g limits d low true false arg a b rel in record { answer-same = r .0; tied = r .1 }))
     own-by policy arg =
-        rw (← (change-number d arg))
+        rw (← (change-number d low arg))
         (both-decided (changeNumber g d arg a) _ _
-        (λ z. record { answer-same = policy-answer g limits d low d low arg a b rel z refl; tied = policy-tied g limits d low d low arg a b rel }))
+        (λ z. record { answer-same = policy-answer g limits d low d low arg a b rel z refl; tied = policy-tied g limits d low d low arg a b rel z }))
     own-by unknown arg = both-decided 4 _ _ (λ z. absurd (omega arith))
 
     own-step : (c : Command) → c .domain ≡ d → Consistent (stepOn g c a) (stepOn g c b)
@@ -95,9 +95,9 @@ module _ (g : Geometry) (limits : within g ≡ true) (d : ℕ) (low : d < 16) wh
     other-policy : (e : ℕ) → e < 16 → (arg : ℕ)
         → Agreed (decided (changeNumber g e arg a) (changePolicy g e arg a) a) (decided (changeNumber g e arg b) (changePolicy g e arg b) b)
     other-policy e h arg =
-        rw (← (change-number e arg))
+        rw (← (change-number e h arg))
         (other-decided (changeNumber g e arg a) (changePolicy g e arg a) (changePolicy g e arg b)
-        (λ z. record { number-same = policy-number e arg; tied = policy-tied g limits d low e h arg a b rel }))
+        (λ z. record { number-same = policy-number e arg; tied = policy-tied g limits d low e h arg a b rel z }))
 
     other-unknown : (o p : Outcome) → Agreed (decided 4 o a) (decided 4 p b)
     other-unknown o p = other-decided 4 o p (λ z. absurd (omega arith))

@@ -6,7 +6,7 @@ use Prim.Native.Nat.{ℕ}
 use lib.ListN.{length}
 use Rattle.waymap.specs.Bits.{bit, word}
 use Rattle.replacement.specs.Rule.{lru}
-use Rattle.domains.specs.Domains.{domainOf, policies}
+use Rattle.domains.specs.Domains.{noCounts, domainOf, policies}
 use Rattle.geometry.specs.declared.Geometry.{Geometry}
 use Rattle.steps.specs.Tables.{rowAt}
 use Rattle.steps.specs.Step.{State}
@@ -42,8 +42,8 @@ record NotEmpty : Type 0 where
   dropped : (length steps ≡ 13) × (length (purge 0 steps) ≡ 10)
   works : ownAnswers small 0 steps (fresh small)
       ≡ (6 ∷ 0 ∷ 0 ∷ []) ∷ (1 ∷ 0 ∷ []) ∷ (1 ∷ 1 ∷ []) ∷ (2 ∷ 0 ∷ 0 ∷ 1 ∷ []) ∷ (4 ∷ 1 ∷ 0 ∷ []) ∷ (0 ∷ 0 ∷ []) ∷ (6 ∷ 0 ∷ 0 ∷ []) ∷ (1 ∷ 1 ∷ []) ∷ []
-  neighbour : domainOf (whole .domains) 1 .counts ≡ record { hits = 0; misses = 3; evicted = 1; written = 1; flushed = 0 }
-  neighbour-struck : domainOf (struck .domains) 1 .counts ≡ record { hits = 0; misses = 0; evicted = 0; written = 0; flushed = 0 }
+  neighbour : domainOf (whole .domains) 1 .counts ≡ record { hits = 0; misses = 3; evicted = 1; written = 1; flushed = 0; fills = 3; dropped = 1 }
+  neighbour-struck : domainOf (struck .domains) 1 .counts ≡ noCounts
   handed-over : policies 4 (whole .domains) 0 .hit ≡ 11
 
 -- ---- not slack: what the theorem leaves out does differ

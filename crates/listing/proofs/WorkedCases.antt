@@ -20,7 +20,7 @@ fileA =
     ∷ 0 ∷ 0 ∷ 64 ∷ 0 ∷ 0 ∷ 0 ∷ 0 ∷ 0 ∷ 0 ∷ 0 ∷ 0 ∷ 0 ∷ 0 ∷ 0 ∷ 0 ∷ 0 ∷ 0 ∷ 0 ∷ 128 ∷ 0 ∷ 0 ∷ 0 ∷ 0 ∷ 0
     ∷ 0 ∷ 0 ∷ []
 
--- the twelve lines that document 01 prints
+-- the twelve lines that document 01 prints, with job 6's two counts more on the domain lines
 abbrev listingA : List ℕ
 listingA =
     49 ∷ 32 ∷ 52 ∷ 32 ∷ 48 ∷ 32 ∷ 57 ∷ 10 ∷ 48 ∷ 32 ∷ 112 ∷ 111 ∷ 108 ∷ 105 ∷ 99 ∷ 121 ∷ 32 ∷ 48 ∷ 32 ∷ 48 ∷ 10 ∷ 49 ∷ 32 ∷ 112
@@ -28,8 +28,8 @@ listingA =
     ∷ 108 ∷ 32 ∷ 49 ∷ 10 ∷ 52 ∷ 32 ∷ 102 ∷ 105 ∷ 108 ∷ 108 ∷ 32 ∷ 50 ∷ 10 ∷ 53 ∷ 32 ∷ 101 ∷ 118 ∷ 105 ∷ 99 ∷ 116 ∷ 32 ∷ 48 ∷ 32 ∷ 48
     ∷ 32 ∷ 49 ∷ 10 ∷ 54 ∷ 32 ∷ 102 ∷ 108 ∷ 117 ∷ 115 ∷ 104 ∷ 32 ∷ 49 ∷ 32 ∷ 48 ∷ 10 ∷ 55 ∷ 32 ∷ 114 ∷ 101 ∷ 102 ∷ 117 ∷ 115 ∷ 101 ∷ 100
     ∷ 32 ∷ 54 ∷ 10 ∷ 56 ∷ 32 ∷ 104 ∷ 105 ∷ 116 ∷ 32 ∷ 48 ∷ 10 ∷ 100 ∷ 111 ∷ 109 ∷ 97 ∷ 105 ∷ 110 ∷ 32 ∷ 48 ∷ 32 ∷ 49 ∷ 32 ∷ 51 ∷ 32
-    ∷ 49 ∷ 32 ∷ 49 ∷ 32 ∷ 49 ∷ 10 ∷ 100 ∷ 111 ∷ 109 ∷ 97 ∷ 105 ∷ 110 ∷ 32 ∷ 49 ∷ 32 ∷ 48 ∷ 32 ∷ 49 ∷ 32 ∷ 48 ∷ 32 ∷ 48 ∷ 32 ∷ 48
-    ∷ 10 ∷ []
+    ∷ 49 ∷ 32 ∷ 49 ∷ 32 ∷ 49 ∷ 32 ∷ 51 ∷ 32 ∷ 48 ∷ 10 ∷ 100 ∷ 111 ∷ 109 ∷ 97 ∷ 105 ∷ 110 ∷ 32 ∷ 49 ∷ 32 ∷ 48 ∷ 32 ∷ 49 ∷ 32 ∷ 48
+    ∷ 32 ∷ 48 ∷ 32 ∷ 48 ∷ 32 ∷ 49 ∷ 32 ∷ 48 ∷ 10 ∷ []
 
 pub case-a-listing : listing fileA ≡ listingA
 unfolding commandOf value field lastSteps badFile fileRefusal decimalBy line told answerLines domainLine domainPart domainLines runLines listing coreComputing
@@ -42,9 +42,9 @@ fileOfACore =
     ∷ 0 ∷ 0 ∷ 0 ∷ 0 ∷ 0 ∷ []
 
 pub core-listing : listing fileOfACore
-    ≡ 49 ∷ 32 ∷ 52 ∷ 32 ∷ 48 ∷ 32 ∷ 51 ∷ 10 ∷ 48 ∷ 32 ∷ 112 ∷ 111 ∷ 108 ∷ 105 ∷ 99 ∷ 121 ∷ 32 ∷ 48 ∷ 32 ∷ 48 ∷ 10 ∷ 49 ∷ 32 ∷ 115 ∷ 101 ∷ 108
-    ∷ 101 ∷ 99 ∷ 116 ∷ 32 ∷ 48 ∷ 32 ∷ 48 ∷ 32 ∷ 49 ∷ 10 ∷ 50 ∷ 32 ∷ 102 ∷ 105 ∷ 108 ∷ 108 ∷ 32 ∷ 48 ∷ 10 ∷ 100 ∷ 111 ∷ 109 ∷ 97 ∷ 105 ∷ 110
-    ∷ 32 ∷ 48 ∷ 32 ∷ 48 ∷ 32 ∷ 49 ∷ 32 ∷ 48 ∷ 32 ∷ 48 ∷ 32 ∷ 48 ∷ 10 ∷ []
+    ≡ 49 ∷ 32 ∷ 52 ∷ 32 ∷ 48 ∷ 32 ∷ 51 ∷ 10 ∷ 48 ∷ 32 ∷ 112 ∷ 111 ∷ 108 ∷ 105 ∷ 99 ∷ 121 ∷ 32 ∷ 48 ∷ 32 ∷ 48 ∷ 10 ∷ 49 ∷ 32 ∷ 115
+    ∷ 101 ∷ 108 ∷ 101 ∷ 99 ∷ 116 ∷ 32 ∷ 48 ∷ 32 ∷ 48 ∷ 32 ∷ 49 ∷ 10 ∷ 50 ∷ 32 ∷ 102 ∷ 105 ∷ 108 ∷ 108 ∷ 32 ∷ 48 ∷ 10 ∷ 100 ∷ 111 ∷ 109
+    ∷ 97 ∷ 105 ∷ 110 ∷ 32 ∷ 48 ∷ 32 ∷ 48 ∷ 32 ∷ 49 ∷ 32 ∷ 48 ∷ 32 ∷ 48 ∷ 32 ∷ 48 ∷ 32 ∷ 49 ∷ 32 ∷ 48 ∷ 10 ∷ []
 unfolding commandOf value field lastSteps badFile fileRefusal decimalBy line told answerLines domainLine domainPart domainLines runLines listing coreComputing
 core-listing = refl
 
@@ -59,8 +59,8 @@ pub refused-files : RefusedFiles
 unfolding any within isPower inLimits isWays value field badFile fileRefusal decimalBy line listing
 refused-files = record { empty = refl; three-sets = refl; many-sets = refl }
 
--- "`domain`, number and five counts": hits, misses, evicted, written back, flushed, here 1 to 5 of domain 7.
-pub counts-in-order : domainLine 7 (record { hits = 1; misses = 2; evicted = 3; written = 4; flushed = 5 })
-    ≡ 100 ∷ 111 ∷ 109 ∷ 97 ∷ 105 ∷ 110 ∷ 32 ∷ 55 ∷ 32 ∷ 49 ∷ 32 ∷ 50 ∷ 32 ∷ 51 ∷ 32 ∷ 52 ∷ 32 ∷ 53 ∷ 10 ∷ []
+-- "`domain`, number" and the counts: hits, misses, evicted, written back, flushed, fills, dropped, here 1 to 7 of domain 7.
+pub counts-in-order : domainLine 7 (record { hits = 1; misses = 2; evicted = 3; written = 4; flushed = 5; fills = 6; dropped = 7 })
+    ≡ 100 ∷ 111 ∷ 109 ∷ 97 ∷ 105 ∷ 110 ∷ 32 ∷ 55 ∷ 32 ∷ 49 ∷ 32 ∷ 50 ∷ 32 ∷ 51 ∷ 32 ∷ 52 ∷ 32 ∷ 53 ∷ 32 ∷ 54 ∷ 32 ∷ 55 ∷ 10 ∷ []
 unfolding domainLine line decimalBy
 counts-in-order = refl

@@ -69,10 +69,12 @@ unfoldable pub answerLines : ℕ → List (List ℕ) → List ℕ
 answerLines i [] = []
 answerLines i (a ∷ rest) = line (decimal i ∷ told a) ++ answerLines (i + 1) rest
 
--- "`domain`, number and five counts"
+-- "`domain`, number and five counts", and document 02's job 6: "fills and dropped, in that order at its end and on the domain line".
 unfoldable pub domainLine : ℕ → Counts → List ℕ
 domainLine d c =
-    line (domain ∷ decimal d ∷ decimal (c .hits) ∷ decimal (c .misses) ∷ decimal (c .evicted) ∷ decimal (c .written) ∷ decimal (c .flushed) ∷ [])
+    line
+    (domain ∷ decimal d ∷ decimal (c .hits) ∷ decimal (c .misses) ∷ decimal (c .evicted) ∷ decimal (c .written) ∷ decimal (c .flushed)
+    ∷ decimal (c .fills) ∷ decimal (c .dropped) ∷ [])
 
 -- Of "each domain whose hit map is not empty" its line, where a set has W ways; of another nothing.
 unfoldable pub domainPart : ℕ → ℕ → Domain → List ℕ

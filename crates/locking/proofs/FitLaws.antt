@@ -13,7 +13,7 @@ use Rattle.row.specs.Row.{Effect}
 use Rattle.command.specs.Command.{Command}
 use Rattle.command.specs.declared.Answer.{Answer}
 use Rattle.command.specs.declared.Answer.the-variants.{Hit, Fill, Evict, Pass, Flush, Absent, Policy, Refused}
-use Rattle.domains.specs.Domains.{domainOf, policies, counted, newDomain}
+use Rattle.domains.specs.Domains.{domainOf, policies, counted, withDrops, newDomain}
 use Rattle.domains.specs.declared.Counts.{Counts}
 use Rattle.domains.specs.declared.Domain.{Domain}
 use Rattle.domains.proofs.CountLaws.{unspent}
@@ -22,7 +22,7 @@ use Rattle.verdict.proofs.RefusalLaws.{not-full}
 use Rattle.geometry.specs.Geometry.{within}
 use Rattle.geometry.specs.Address.{setOf}
 use Rattle.geometry.specs.declared.Geometry.{Geometry}
-use Rattle.steps.specs.Step.{State, rowEffect, useLine, changePolicy}
+use Rattle.steps.specs.Step.{State, rowEffect, useLine, droppedBy, changePolicy}
 use Rattle.steps.specs.Run.{finally}
 use Rattle.steps.specs.Fresh.{fresh}
 use Rattle.steps.specs.Inside.{changeNumber, lineWork}
@@ -47,9 +47,9 @@ one-hit (Policy dropped dirty) c = omega arith
 one-hit (Refused n) c = omega arith
 
 -- a change of policy keeps the counts or makes them zero
-new-fits : (arg : ℕ) (x : Domain) → Fits (x .counts) → Fits (newDomain arg x .counts)
-unfolding newDomain
-new-fits arg x h = cases (eqb arg 0) (λ t. rw t (omega arith)) (λ t. rw t h)
+new-fits : (arg n : ℕ) (x : Domain) → Fits (x .counts) → Fits (newDomain arg n x .counts)
+unfolding newDomain withDrops
+new-fits arg n x h = cases (eqb arg 0) (λ t. rw t (omega arith)) (λ t. rw t h)
 
 module _ (g : Geometry) (limits : within g ≡ true) where
   -- every domain's hits fit
@@ -87,7 +87,7 @@ module _ (g : Geometry) (limits : within g ≡ true) where
     kept = change-kept g limits s (q .kept) e k arg z;
     all = λ d.
         cases (eqb d e)
-        (λ t. rw (eqb-true d e t, changed-domain g e k arg s (q .kept .whole)) (new-fits arg (domainOf (s .domains) e) (q .all e)))
+        (λ t. rw (eqb-true d e t, changed-domain g e k arg s (q .kept .whole)) (new-fits arg (droppedBy g e arg s) (domainOf (s .domains) e) (q .all e)))
         (λ t. rw (changed-other g e k arg s (q .kept .whole) d (eqb-false d e t)) (q .all d));
   }
 

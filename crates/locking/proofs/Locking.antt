@@ -30,7 +30,7 @@ module _ (g : Geometry) (limits : within g ≡ true) (d : ℕ) (low : d < 16) wh
     whole-b = reached-whole g limits s r;
     policy-same = λ e. refl;
     maps-same = refl;
-    counts-same = record { hits = omega arith; misses = refl; evicted = refl; written = refl; flushed = refl };
+    counts-same = record { hits = omega arith; misses = refl; evicted = refl; written = refl; flushed = refl; fills = refl; dropped = refl };
     rows = λ i h. record {
       matches = λ w t. line-match (same-line (rowAt (g .ways) i (s .tables)) w);
       marks = λ w t u. refl;
@@ -40,7 +40,7 @@ module _ (g : Geometry) (limits : within g ≡ true) (d : ℕ) (low : d < 16) wh
 
   unsteered-from : (cs : List Command) (s : State) → Reached g s → Stands g d (isLocked g d s) cs s → Unspent g d cs s → Unsteered g d cs s
   unsteered-from cs s r stands unspent =
-      let runs = along g limits d low s cs s s 0 r (near-itself s r) (λ address. refl) stands unspent in
+      let runs = along g limits d low s cs s s 0 r r (near-itself s r) (λ address. refl) stands unspent in
       record {
         answers-same = runs .answers-same;
         maps-same = runs .ends-near .maps-same;

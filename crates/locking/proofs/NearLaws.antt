@@ -66,6 +66,8 @@ counted-same (Hit w) s = record {
   evicted = s .evicted;
   written = s .written;
   flushed = s .flushed;
+  fills = s .fills;
+  dropped = s .dropped;
 }
 counted-same (Fill w) s = record {
   hits = s .hits;
@@ -73,6 +75,8 @@ counted-same (Fill w) s = record {
   evicted = s .evicted;
   written = s .written;
   flushed = s .flushed;
+  fills = ap (λ (m : ℕ). m + 1) (s .fills);
+  dropped = s .dropped;
 }
 counted-same (Evict w tag dirty) s = record {
   hits = s .hits;
@@ -80,6 +84,8 @@ counted-same (Evict w tag dirty) s = record {
   evicted = ap (λ (m : ℕ). m + 1) (s .evicted);
   written = ap (λ (m : ℕ). m + digit dirty) (s .written);
   flushed = s .flushed;
+  fills = ap (λ (m : ℕ). m + 1) (s .fills);
+  dropped = s .dropped;
 }
 counted-same Pass s = record {
   hits = s .hits;
@@ -87,6 +93,8 @@ counted-same Pass s = record {
   evicted = s .evicted;
   written = s .written;
   flushed = s .flushed;
+  fills = s .fills;
+  dropped = s .dropped;
 }
 counted-same (Flush w dirty) s = record {
   hits = s .hits;
@@ -94,6 +102,8 @@ counted-same (Flush w dirty) s = record {
   evicted = s .evicted;
   written = ap (λ (m : ℕ). m + digit dirty) (s .written);
   flushed = ap (λ (m : ℕ). m + 1) (s .flushed);
+  fills = s .fills;
+  dropped = s .dropped;
 }
 counted-same Absent s = s
 counted-same (Policy dropped dirty) s = s
@@ -108,6 +118,8 @@ counted-hit w s = record {
   evicted = s .evicted;
   written = s .written;
   flushed = s .flushed;
+  fills = s .fills;
+  dropped = s .dropped;
 }
 
 -- where the run with more hits is not refused by 7, neither is the other
@@ -128,6 +140,8 @@ verdict-same {n} p {c} {k} s most seven =
           ne-eqb (k .evicted) 4294967295 (λ e. room .evicted (s .evicted ∙ e)),
           ne-eqb (k .written) 4294967295 (λ e. room .written (s .written ∙ e)),
           ne-eqb (k .flushed) 4294967295 (λ e. room .flushed (s .flushed ∙ e)),
+          ne-eqb (k .fills) 4294967295 (λ e. room .fills (s .fills ∙ e)),
+          ne-eqb (k .dropped) 4294967295 (λ e. room .dropped (s .dropped ∙ e)),
         )
 
 -- ---- near states

@@ -8,12 +8,12 @@ use lib.ListN.{length, getD}
 use borrow.Author.Tests.{eqb-true, eq-eqb, not-true}
 use Rattle.waymap.specs.Bits.{bit}
 use Rattle.waymap.proofs.Booleans.{cases, and-left, and-right}
-use Rattle.waymap.proofs.WayLaws.{any-at, lowest-found}
+use Rattle.waymap.proofs.WayLaws.{any-at}
 use Rattle.replacement.specs.Rule.{Rule}
 use Rattle.replacement.specs.Isolates.{SameOwn}
 use Rattle.replacement.specs.Laws.{Laws}
 use Rattle.lookup.specs.Lookup as Lookup
-use Rattle.lookup.proofs.LookupLaws.{hit-own}
+use Rattle.lookup.proofs.LookupLaws.{hit-own, hit-valid, hit-tag}
 use Rattle.row.specs.Row.{Row, isHit, hitWay, hitAt, accessBy, access, flush}
 use Rattle.row.specs.View.{SameMatch, SameLine, SameRead}
 use Rattle.row.proofs.LookLaws as LookLaws
@@ -72,16 +72,11 @@ locked-same p r q w e = ap (λ (b : Bool). bit (p .hit) w && not (bit (p .fill) 
 
 module _ (hit tag : ℕ) (r : Row) where
   pub hit-has : isHit r hit tag ≡ true → Has hit r tag (hitWay r hit tag)
-  unfolding Lookup.isHit Lookup.hitWay Lookup.matches
-  hit-has e =
-      let w = hitWay r hit tag in
-      let found = lowest-found (length (r .tags)) (Lookup.matches (r .tags) (r .valid) hit tag) e .1 in
-      let both = and-left (bit hit w && bit (r .valid) w) (eqb (getD (r .tags) w 0) tag) found in
-      record {
-        in-map = and-left (bit hit w) (bit (r .valid) w) both;
-        is-valid = and-right (bit hit w) (bit (r .valid) w) both;
-        has-tag = eqb-true (getD (r .tags) w 0) tag (and-right (bit hit w && bit (r .valid) w) (eqb (getD (r .tags) w 0) tag) found);
-      }
+  hit-has e = record {
+    in-map = hit-own (r .tags) (r .valid) hit tag e;
+    is-valid = hit-valid (r .tags) (r .valid) hit tag e;
+    has-tag = hit-tag (r .tags) (r .valid) hit tag e;
+  }
 
   pub has-hit : (w : ℕ) → w < length (r .tags) → Has hit r tag w → isHit r hit tag ≡ true
   unfolding Lookup.isHit Lookup.matches

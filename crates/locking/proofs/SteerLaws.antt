@@ -28,7 +28,7 @@ use Rattle.geometry.proofs.GeometryLaws.{limited}
 use Rattle.steps.specs.Tables.{rowAt}
 use Rattle.steps.specs.Step.{State, Outcome, answers, useLine, changePolicy, stepBy, decided}
 use Rattle.steps.specs.Run.{stepOn, answersOf, finally}
-use Rattle.steps.specs.Inside.{Whole, lineWork}
+use Rattle.steps.specs.Inside.{Whole, changeNumber, lineWork}
 use Rattle.steps.proofs.SetLaws.{row-long}
 use Rattle.steps.proofs.StateLaws.{step-beyond, step-within}
 use Rattle.steps.proofs.DidLaws.{Did, turned-down, used, changed, did}
@@ -39,7 +39,7 @@ use Rattle.locking.specs.Once.{OnceIn}
 use Rattle.locking.specs.Locked.{locked, lockedIn, isLocked}
 use Rattle.locking.specs.Locking.{changes, flushes, Answered, Stands, Unspent, strike, toLocked, otherwise, rest}
 use Rattle.reached.specs.Reached.{Reached, Separate}
-use Rattle.reached.proofs.Reached.{step-reached, reached-separate}
+use Rattle.reached.proofs.Reached.{step-reached, reached-separate, number-same}
 use Rattle.locking.proofs.WordFits.{rule, reached-fits}
 use Rattle.locking.proofs.FitLaws.{hits-fit}
 use Rattle.locking.proofs.OnceLaws.{reached-once}
@@ -111,7 +111,7 @@ module _ (g : Geometry) (limits : within g ≡ true) (d : ℕ) (low : d < 16) wh
 
   -- ---- one step of both runs
 
-  module _ (n : ℕ) (a b : State) (r : Reached g a) (near : Near g limits d low n a b) (c : Command) where
+  module _ (n : ℕ) (a b : State) (r : Reached g a) (q : Reached g b) (near : Near g limits d low n a b) (c : Command) where
     abbrev Next : ℕ → State → State → Type 0
     Next m s t = Near g limits d low m s t
 
@@ -152,12 +152,13 @@ module _ (g : Geometry) (limits : within g ≡ true) (d : ℕ) (low : d < 16) wh
         (λ t. rw (
           step-within g limits c a (near .whole-a) (leb-false 16 (c .domain) t),
           step-within g limits c b (near .whole-b) (leb-false 16 (c .domain) t),
-          ← (fun-ext (near .policy-same)),
           le-ltb (c .kind) 3 (omega arith),
           ne-eqb (c .kind) 3 (λ q. omega arith),
         )
         (cases (eqb (c .kind) 16)
-        (λ u. rw u (high-decided _ _ _ (λ z. both-changed (leb-false 16 (c .domain) t) (eqb-true (c .kind) 16 u))))
+        (λ u. let k : c .domain < 16 = leb-false 16 (c .domain) t in
+        rw (u, ← (number-same g limits a b r q (near .policy-same) (c .domain) k (c .argument)))
+        (high-decided (changeNumber g (c .domain) (c .argument) a) _ _ (λ z. both-changed k (eqb-true (c .kind) 16 u))))
         (λ u. rw u (high-decided 4 _ _ (λ z. absurd (omega arith))))))
 
     -- ---- a step that both runs have: an own one answers the same, and the states stay near
@@ -296,20 +297,20 @@ module _ (g : Geometry) (limits : within g ≡ true) (d : ℕ) (low : d < 16) (s
   more : {m k : ℕ} {a b : State} → m ≡ k → Near g limits d low m a b → Near g limits d low k a b
   more {m} {k} {a} {b} e = subst (λ (j : ℕ). Near g limits d low j a b) e
 
-  pub along : (cs : List Command) (a b : State) (n : ℕ) → Reached g a → Near g limits d low n a b
+  pub along : (cs : List Command) (a b : State) (n : ℕ) → Reached g a → Reached g b → Near g limits d low n a b
       → ((address : ℕ) → isLocked g d a address ≡ isLocked g d s address) → Stands g d (isLocked g d s) cs a → Unspent g d cs a → Along a b n cs
   unfolding answersTo answersOf ownAnswers finally strike Answered
-  along [] a b n r near locks stands unspent = record { answers-same = refl; ends-near = more (omega arith) near }
-  along (c ∷ cs) a b n r near locks stands unspent =
+  along [] a b n r q near locks stands unspent = record { answers-same = refl; ends-near = more (omega arith) near }
+  along (c ∷ cs) a b n r q near locks stands unspent =
       cases (toLocked g d s c)
-      (λ t. let next = goes-alone g limits d low n a b r near c (rw (locks (c .argument)) t) (unspent .0) in
-      let then = along cs (stepOn g c a .state) b (suc n) (step-reached g c a r) next still later (unspent .1) in
+      (λ t. let next = goes-alone g limits d low n a b r q near c (rw (locks (c .argument)) t) (unspent .0) in
+      let then = along cs (stepOn g c a .state) b (suc n) (step-reached g c a r) q next still later (unspent .1) in
       record {
         answers-same = rw (t, and-false (belongs d c)) (then .answers-same);
         ends-near = rw t (more (omega (arith, short (toLocked g d s) cs)) (then .ends-near));
       })
-      (λ t. let go = goes-on g limits d low n a b r near c (stands .unchanged .0) unflushed (unspent .0) in
-      let then = along cs (stepOn g c a .state) (stepOn g c b .state) n (step-reached g c a r) (go .next) still later (unspent .1) in
+      (λ t. let go = goes-on g limits d low n a b r q near c (stands .unchanged .0) unflushed (unspent .0) in
+      let then = along cs (stepOn g c a .state) (stepOn g c b .state) n (step-reached g c a r) (step-reached g c b q) (go .next) still later (unspent .1) in
       record {
         answers-same =
             rw (t, and-true (belongs d c))

@@ -69,6 +69,8 @@ pub record SameButHits (n : ℕ) (c k : Counts) : Type 0 where
   pub evicted : c .evicted ≡ k .evicted
   pub written : c .written ≡ k .written
   pub flushed : c .flushed ≡ k .flushed
+  pub fills : c .fills ≡ k .fills
+  pub dropped : c .dropped ≡ k .dropped
 
 -- What the domain sees is the same whether or not it accesses its locked lines: the answers to its other steps, its maps, its counts but for a hit less
 -- for each access left out, and in every set its other lines and its own replacement data.

@@ -6,9 +6,9 @@ use Prim.Native.Nat.{ℕ, _≤_, _<_}
 use native.Mathlib.Omega.{arith}
 use lib.Dec.{eqb, leb, ltb}
 use lib.ListN.{length, getD}
-use borrow.Author.Tests.{lt-ltb, le-ltb, le-leb}
+use borrow.Author.Tests.{eqb-true, lt-ltb, le-ltb, le-leb}
 use Rattle.waymap.specs.Bits.{bit, lowest, members}
-use Rattle.waymap.proofs.Booleans.{cases, and-left}
+use Rattle.waymap.proofs.Booleans.{cases, and-left, and-right}
 use Rattle.waymap.proofs.WayLaws.{any-lowest, none-at, lowest-found, lowest-none, lowest-same}
 use Rattle.waymap.proofs.MemberLaws.{members-ext, members-up-to, members-at}
 use Rattle.lookup.specs.Lookup.{matches, isHit, hitWay, visits, SameVisited, SameFound}
@@ -26,21 +26,34 @@ module _ (tags : List ℕ) (valid hit tag : ℕ) where
       any-lowest (length tags) (matches tags valid hit tag) ∙ le-ltb (lowest (length tags) (matches tags valid hit tag)) (length tags) h
 
   -- where the way is that it hits, and where it is counted to be where there is none
-  hit-lt : isHit tags valid hit tag ≡ true → hitWay tags valid hit tag < length tags
+  pub hit-lt : isHit tags valid hit tag ≡ true → hitWay tags valid hit tag < length tags
   unfolding isHit hitWay
   hit-lt e = lowest-found (length tags) (matches tags valid hit tag) e .0
+
+  hit-matches : isHit tags valid hit tag ≡ true → matches tags valid hit tag (hitWay tags valid hit tag) ≡ true
+  unfolding isHit hitWay
+  hit-matches e = lowest-found (length tags) (matches tags valid hit tag) e .1
+
+  hit-line : isHit tags valid hit tag ≡ true → (bit hit (hitWay tags valid hit tag) && bit valid (hitWay tags valid hit tag)) ≡ true
+  unfolding matches
+  hit-line e = let w = hitWay tags valid hit tag in and-left (bit hit w && bit valid w) (eqb (getD tags w 0) tag) (hit-matches e)
 
   miss-way : isHit tags valid hit tag ≡ false → hitWay tags valid hit tag ≡ length tags
   unfolding isHit hitWay
   miss-way e = lowest-none (length tags) (matches tags valid hit tag) (λ w h. none-at (length tags) (matches tags valid hit tag) w e h)
 
-  -- the way that it hits is in the hit map
+  -- the way that it hits is in the hit map, and it is valid with the tag
   pub hit-own : isHit tags valid hit tag ≡ true → bit hit (hitWay tags valid hit tag) ≡ true
-  unfolding isHit hitWay matches
-  hit-own e =
+  hit-own e = let w = hitWay tags valid hit tag in and-left (bit hit w) (bit valid w) (hit-line e)
+
+  pub hit-valid : isHit tags valid hit tag ≡ true → bit valid (hitWay tags valid hit tag) ≡ true
+  hit-valid e = let w = hitWay tags valid hit tag in and-right (bit hit w) (bit valid w) (hit-line e)
+
+  pub hit-tag : isHit tags valid hit tag ≡ true → getD tags (hitWay tags valid hit tag) 0 ≡ tag
+  unfolding matches
+  hit-tag e =
       let w = hitWay tags valid hit tag in
-      and-left (bit hit w) (bit valid w)
-      (and-left (bit hit w && bit valid w) (eqb (getD tags w 0) tag) (lowest-found (length tags) (matches tags valid hit tag) e .1))
+      eqb-true (getD tags w 0) tag (and-right (bit hit w && bit valid w) (eqb (getD tags w 0) tag) (hit-matches e))
 
   -- ---- the ways visited: with a hit, the hit map's ways below it, and then it
 

@@ -82,3 +82,11 @@ cut-read W p = record { part = part; within = within }
     within : (w : ℕ) → bit (word 16 hits) w ≡ true → w < W
     within w e =
         ltb-true w W (and-right (bit (p .hit) w) (ltb w W) (and-right (ltb w 16) (hits w) (sym (bit-word 16 hits w) ∙ e)))
+
+-- a way of the hit map as read is one of the sixteen, and of the map itself
+pub read-hit : (W : ℕ) (p : Maps) (w : ℕ) → bit (asRead W p .hit) w ≡ true → (w < 16) × (bit (p .hit) w ≡ true)
+unfolding asRead
+read-hit W p w e =
+    let hits : Bits = λ v. bit (p .hit) v && ltb v W in
+    let all : (ltb w 16 && hits w) ≡ true = sym (bit-word 16 hits w) ∙ e in
+    (ltb-true w 16 (and-left (ltb w 16) (hits w) all), and-left (bit (p .hit) w) (ltb w W) (and-right (ltb w 16) (hits w) all))

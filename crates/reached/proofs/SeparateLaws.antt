@@ -20,13 +20,14 @@ use Rattle.policy.proofs.ArgumentLaws.{good-maps}
 use Rattle.domains.specs.Domains.{domainOf, policies}
 use Rattle.domains.specs.declared.Domains.{Domains}
 use Rattle.verdict.specs.Refusal.{heldElsewhere, sharesWay, sharesNode}
+use Rattle.verdict.proofs.PolicyLaws.{Passed}
 use Rattle.geometry.specs.Geometry.{within}
 use Rattle.geometry.specs.Inside.{Limited}
 use Rattle.geometry.specs.declared.Geometry.{Geometry}
 use Rattle.steps.specs.Step.{State, changePolicy}
 use Rattle.steps.specs.Fresh.{fresh}
 use Rattle.steps.specs.Inside.{Whole, changeNumber}
-use Rattle.steps.proofs.StateLaws.{Passed, passed, changed-policy, changed-policy-other}
+use Rattle.steps.proofs.StateLaws.{passed, changed-policy, changed-policy-other}
 use Rattle.steps.proofs.RunLaws.{fresh-domain}
 use Rattle.reached.specs.Reached.{Separate}
 

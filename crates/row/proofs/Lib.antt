@@ -2,5 +2,6 @@
 pub mod RuleLaws
 pub mod WorkLaws
 pub mod LineLaws
+pub mod LinesLaws
 pub mod LookLaws
 pub mod ToldLaws

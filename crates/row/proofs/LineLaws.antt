@@ -105,13 +105,13 @@ module _ (R : Rule) (fill : ℕ) (store : Bool) (w : ℕ) (r : Row) where
 
 -- ---- an access by its cases, on two rows for which its tests come out alike
 
-access-cases : (R : Rule) (p : Maps) (tag : ℕ) (store : Bool) (r q : Row) (P : Effect → Effect → Type 0)
+pub access-cases : (R : Rule) (p : Maps) (tag : ℕ) (store : Bool) (r q : Row) (P : Effect → Effect → Type 0)
     → isHit r (p .hit) tag ≡ isHit q (p .hit) tag → any (ways r) (bit (p .fill)) ≡ any (ways q) (bit (p .fill))
     → any (ways r) (vacant r (p .fill)) ≡ any (ways q) (vacant q (p .fill))
     → (isHit r (p .hit) tag ≡ true → P (hitAt R (p .fill) store (hitWay r (p .hit) tag) r) (hitAt R (p .fill) store (hitWay q (p .hit) tag) q))
     → P (record { answer = Pass; row = r }) (record { answer = Pass; row = q })
     → (any (ways r) (vacant r (p .fill)) ≡ true → P (fillAt R (p .fill) tag store r) (fillAt R (p .fill) tag store q))
-    → (any (ways r) (bit (p .fill)) ≡ true → P (evictAt R (p .fill) tag store r) (evictAt R (p .fill) tag store q))
+    → (any (ways r) (bit (p .fill)) ≡ true → any (ways r) (vacant r (p .fill)) ≡ false → P (evictAt R (p .fill) tag store r) (evictAt R (p .fill) tag store q))
     → P (access R p tag store r) (access R p tag store q)
 unfolding access accessBy
 access-cases R p tag store r q P e f g hit pass fill evict =
@@ -120,7 +120,7 @@ access-cases R p tag store r q P e f g hit pass fill evict =
     (λ t. rw t (hit t))
     (λ t. rw t
     (cases (any (ways r) (bit (p .fill)))
-    (λ u. rw u (cases (any (ways r) (vacant r (p .fill))) (λ v. rw v (fill v)) (λ v. rw v (evict u))))
+    (λ u. rw u (cases (any (ways r) (vacant r (p .fill))) (λ v. rw v (fill v)) (λ v. rw v (evict u v))))
     (λ u. rw u pass))))
 
 module _ {W : ℕ} {R : Rule} (I : Isolates W R) (few : W ≤ 16) (p : Maps) (c : Cut W p) (tag : ℕ) where
@@ -152,7 +152,7 @@ module _ {W : ℕ} {R : Rule} (I : Isolates W R) (few : W ≤ 16) (p : Maps) (c 
         (same-line r v)
         (λ t. filled-other R (p .fill) tag store (lowest (ways r) (vacant r (p .fill))) (r .word) r v low
         (apart (p .hit) (lowest (ways r) (vacant r (p .fill))) v (c .part _ (vacant-fill t)) b))
-        (λ t. filled-other R (p .fill) tag store (R .victim (p .fill) (r .word)) (R .before (p .fill) (r .word)) r v low
+        (λ t u. filled-other R (p .fill) tag store (R .victim (p .fill) (r .word)) (R .before (p .fill) (r .word)) r v low
         (apart (p .hit) (R .victim (p .fill) (r .word)) v (c .part _ (victim-fill t)) b))
       where
         low : v < 16
@@ -167,7 +167,7 @@ module _ {W : ℕ} {R : Rule} (I : Isolates W R) (few : W ≤ 16) (p : Maps) (c 
         (line-match (same-line r v))
         (λ t. line-match (filled-other R (p .fill) tag store (lowest (ways r) (vacant r (p .fill))) (r .word) r v low
         (apart (p .fill) (lowest (ways r) (vacant r (p .fill))) v (vacant-fill t) b)))
-        (λ t. line-match (filled-other R (p .fill) tag store (R .victim (p .fill) (r .word)) (R .before (p .fill) (r .word)) r v low
+        (λ t u. line-match (filled-other R (p .fill) tag store (R .victim (p .fill) (r .word)) (R .before (p .fill) (r .word)) r v low
         (apart (p .fill) (R .victim (p .fill) (r .word)) v (victim-fill t) b)))
       where
         low : v < 16
@@ -181,7 +181,7 @@ module _ {W : ℕ} {R : Rule} (I : Isolates W R) (few : W ≤ 16) (p : Maps) (c 
         (λ t. I .touch-stays (p .fill) (hitWay r (p .hit) tag) (r .word) x b)
         refl
         (λ t. I .touch-stays (p .fill) (lowest (ways r) (vacant r (p .fill))) (r .word) x b)
-        (λ t. I .touch-stays (p .fill) (R .victim (p .fill) (r .word)) (R .before (p .fill) (r .word)) x b ∙ I .before-stays (p .fill) (r .word) x b)
+        (λ t u. I .touch-stays (p .fill) (R .victim (p .fill) (r .word)) (R .before (p .fill) (r .word)) x b ∙ I .before-stays (p .fill) (r .word) x b)
 
     -- a flush leaves every line that it does not hit, and so those outside the hit map
     pub flush-spares : (v : ℕ) → v < W → (isHit r (p .hit) tag ≡ true → hitWay r (p .hit) tag ≡ v → ⊥) → SameLine (flush p tag r .row) r v
@@ -234,7 +234,8 @@ module _ {W : ℕ} {R : Rule} (I : Isolates W R) (few : W ≤ 16) (p : Maps) (c 
         → (isHit r (p .hit) tag ≡ true → P (hitAt R (p .fill) store (hitWay r (p .hit) tag) r) (hitAt R (p .fill) store (hitWay q (p .hit) tag) q))
         → P (record { answer = Pass; row = r }) (record { answer = Pass; row = q })
         → (any (ways r) (vacant r (p .fill)) ≡ true → P (fillAt R (p .fill) tag store r) (fillAt R (p .fill) tag store q))
-        → (any (ways r) (bit (p .fill)) ≡ true → P (evictAt R (p .fill) tag store r) (evictAt R (p .fill) tag store q))
+        → (any (ways r) (bit (p .fill)) ≡ true → any (ways r) (vacant r (p .fill)) ≡ false
+        → P (evictAt R (p .fill) tag store r) (evictAt R (p .fill) tag store q))
         → P (access R p tag store r) (access R p tag store q)
     by-cases store P = access-cases R p tag store r q P hit-same fill-same room-same
 
@@ -245,7 +246,7 @@ module _ {W : ℕ} {R : Rule} (I : Isolates W R) (few : W ≤ 16) (p : Maps) (c 
         (λ t. ap Hit way-same)
         refl
         (λ t. ap Fill lowest-same)
-        (λ t. let w : ℕ = R .victim (p .fill) (r .word) in
+        (λ t u. let w : ℕ = R .victim (p .fill) (r .word) in
         let mine = victim-fill r long-r t in
         rw (← victim-same) (ap₂ (λ (x : ℕ) (b : Bool). Evict w x b) (s .matches w (c .part w mine) .tag) (s .marks w mine)))
 
@@ -256,7 +257,7 @@ module _ {W : ℕ} {R : Rule} (I : Isolates W R) (few : W ≤ 16) (p : Maps) (c 
         (λ t. rw (← way-same) (hit-agrees R (p .fill) store (hitWay r (p .hit) tag) r q v low e))
         e
         (λ t. rw (← lowest-same) (filled-agrees R (p .fill) tag store (lowest (ways r) (vacant r (p .fill))) (r .word) r q (q .word) v low as-long e))
-        (λ t. rw (← victim-same)
+        (λ t u. rw (← victim-same)
         (filled-agrees R (p .fill) tag store (R .victim (p .fill) (r .word)) (R .before (p .fill) (r .word)) r q
         (R .before (p .fill) (q .word)) v low as-long e))
       where
@@ -271,7 +272,7 @@ module _ {W : ℕ} {R : Rule} (I : Isolates W R) (few : W ≤ 16) (p : Maps) (c 
         (λ t. rw (← way-same) (I .touch-agrees (p .fill) (hitWay r (p .hit) tag) (r .word) (q .word) x (s .own) e))
         e
         (λ t. rw (← lowest-same) (I .touch-agrees (p .fill) (lowest (ways r) (vacant r (p .fill))) (r .word) (q .word) x (s .own) e))
-        (λ t. rw (← victim-same)
+        (λ t u. rw (← victim-same)
         (I .touch-agrees (p .fill) (R .victim (p .fill) (r .word)) (R .before (p .fill) (r .word)) (R .before (p .fill) (q .word)) x
         (λ y o. I .before-agrees (p .fill) (r .word) (q .word) y (s .own) (s .own y o))
         (I .before-agrees (p .fill) (r .word) (q .word) x (s .own) e)))
@@ -304,7 +305,7 @@ access-long R p tag store r =
     access-cases R p tag store r r (λ e f. length (e .row .tags) ≡ length (r .tags)) refl refl refl
     (λ t. refl) refl
     (λ t. length-set (r .tags) (lowest (ways r) (vacant r (p .fill))) tag)
-    (λ t. length-set (r .tags) (R .victim (p .fill) (r .word)) tag)
+    (λ t u. length-set (r .tags) (R .victim (p .fill) (r .word)) tag)
 
 pub flush-long : (p : Maps) (tag : ℕ) (r : Row) → length (flush p tag r .row .tags) ≡ length (r .tags)
 unfolding flush flushAt

@@ -3,7 +3,7 @@ use mathlib.Core.Bool.{Bool, true, false, cond, not, _&&_}
 use mathlib.Core.List.{List}
 use Prim.Native.Nat.{ℕ}
 use lib.ListN.{length, getD, set}
-use Rattle.waymap.specs.Bits.{Bits, bit, word, any, lowest, put}
+use Rattle.waymap.specs.Bits.{Bits, bit, word, any, lowest, count, put}
 use Rattle.replacement.specs.Rule.{Rule}
 use Rattle.policy.specs.declared.Maps.{Maps}
 use Rattle.lookup.specs.Lookup as Lookup
@@ -25,6 +25,10 @@ pub record Effect : Type 0 where
 
 abbrev pub ways : Row → ℕ
 ways r = length (r .tags)
+
+-- The valid lines that a set has in some ways.
+unfoldable pub linesIn : Bits → Row → ℕ
+linesIn map r = count (ways r) (λ w. map w && bit (r .valid) w)
 
 -- ---- Hit lookup
 

@@ -1,7 +1,9 @@
-// Runs the steps of a file as calls of the cache, where the number of sets is not held to a file's limit. Standard input has the form of a
-// trace file, and its sets are any number of two bytes. What is written has the form of a listing. A file under 8 bytes, not of its length or
-// with too many steps gives the one line `refused 10`; under a geometry outside the limits each step is a call that is refused by 1. A failed
-// read or write is told on standard error.
+// Runs the steps of a file as calls of the cache, on what a trace file cannot bring about. Standard input has the form of a trace file, whose sets are any
+// number of two bytes, and the cache is fresh; or it has records and maps that are lent, as lent.rt says, and then a trace file. What is written has the
+// form of a listing. A file of neither form, or of more than 40,968 bytes, gives the one line `refused 10`. Under a geometry outside the limits each step
+// on a fresh cache is a call that is refused by 1. A failed read or write is told on standard error.
+mod lent;
+
 use command::Answer;
 use domains::Domain;
 use domains::Domains;
@@ -35,7 +37,7 @@ fn show_numbers(values: &[u64]) -> bool {
 }
 
 // Ends a line with a word and numbers.
-fn show_told(word: &[u8], values: &[u64]) -> bool {
+pub fn show_told(word: &[u8], values: &[u64]) -> bool {
     if io::write_all(STDOUT_FILENO, word) {
         return show_numbers(values);
     }
@@ -90,6 +92,8 @@ fn show_domain(ways: usize, number: u64, own: Domain) -> bool {
             counts.evicted as u64,
             counts.written as u64,
             counts.flushed as u64,
+            counts.fills as u64,
+            counts.dropped as u64,
         ],
     )
 }
@@ -146,8 +150,8 @@ fn take(
     }
 }
 
-// Makes the calls of a file's steps on the lent tables, made fresh.
-fn run(
+// Makes the calls of a file's steps on the lent tables and records.
+pub fn run(
     g: Geometry,
     file: &[u8],
     n: u32,
@@ -155,10 +159,10 @@ fn run(
     valid: &mut [u16],
     dirty: &mut [u16],
     words: &mut [u64],
+    domains: Domains,
 ) -> Shown {
-    fresh::fresh_tables(g, tags, valid, dirty, words);
     let mut shown = Shown {
-        domains: fresh::fresh_domains(),
+        domains,
         written: true,
     };
     for i in 0..n {
@@ -168,7 +172,7 @@ fn run(
 }
 
 // A number, or the limit where that is smaller.
-fn at_most(n: usize, limit: usize) -> usize
+pub fn at_most(n: usize, limit: usize) -> usize
     ensures { λ r. ⌜ r ≤ limit ⌝ }
 {
     if limit < n {
@@ -178,12 +182,35 @@ fn at_most(n: usize, limit: usize) -> usize
 }
 
 // The number of tags of a number of sets.
-fn cells_of(sets: usize, ways: usize) -> usize
+pub fn cells_of(sets: usize, ways: usize) -> usize
     requires { ⌜ sets ≤ maxSets ⌝ }
     requires { ⌜ ways ≤ 16 ⌝ }
-    ensures { λ r. ⌜ r ≤ 16 * maxSets ⌝ }
+    ensures { λ r. ⌜ r ≤ 16 * sets ⌝ }
 {
     sets * ways
+}
+
+// Makes the calls from a fresh cache.
+fn run_fresh(
+    g: Geometry,
+    file: &[u8],
+    n: u32,
+    tags: &mut [u64],
+    valid: &mut [u16],
+    dirty: &mut [u16],
+    words: &mut [u64],
+) -> Shown {
+    fresh::fresh_tables(g, tags, valid, dirty, words);
+    run(
+        g,
+        file,
+        n,
+        tags,
+        valid,
+        dirty,
+        words,
+        fresh::fresh_domains(),
+    )
 }
 
 // Lends tables for as many sets and ways as are named; more than there may be are not, and then each call is refused all the same.
@@ -194,7 +221,7 @@ fn lend(g: Geometry, file: &[u8], n: u32) -> bool {
     let mut words = [0u64; MAX_SETS];
     let sets = at_most(g.sets, MAX_SETS);
     let cells = cells_of(sets, at_most(g.ways, 16));
-    let shown = run(
+    let shown = run_fresh(
         g,
         file,
         n,
@@ -220,17 +247,22 @@ fn whole(file: &[u8], n: usize) -> bool {
     file.len() == 8 + 10 * n
 }
 
+// Writes the first line, of a file of n steps.
+pub fn show_head(g: Geometry, n: u32) -> bool {
+    if io::print_decimal(STDOUT_FILENO, g.sets as u64) {
+        return show_numbers(&[g.ways as u64, g.rule as u64, n as u64]);
+    }
+    false
+}
+
 // Writes the lines of a file.
 fn show_file(file: &[u8]) -> bool {
     let n = tracefile::steps(file);
     if whole(file, n as usize) {} else {
-        return io::write_all(STDOUT_FILENO, b"refused 10\n");
+        return lent::show_file(file);
     }
     let g = tracefile::geometry(file);
-    if io::print_decimal(STDOUT_FILENO, g.sets as u64) {} else {
-        return false;
-    }
-    if show_numbers(&[g.ways as u64, g.rule as u64, n as u64]) {
+    if show_head(g, n) {
         return lend(g, file, n);
     }
     false

@@ -53,6 +53,10 @@ rows-kept a b c d r = record {
 pub maps-room : {d now long : ℕ} → d < 16 → now ≡ long → 64 ≤ long → 4 * d + 4 ≤ now
 maps-room h e l = omega arith
 
+-- A block has room for more than these 64.
+pub held-room : {now long : ℕ} → now ≡ long → 168 + 142 * maxFileSets ≤ long → 64 ≤ now
+held-room e l = omega arith
+
 -- The selectors of core c, three bytes, among the 96 after them.
 pub records-room : {c now long : ℕ} → c < 32 → now ≡ long → 160 ≤ long → 64 + 3 * c + 3 ≤ now
 records-room h e l = omega arith
@@ -94,6 +98,12 @@ pub rows-count : {to at next set : ℕ} {out₀ out : List ℕ} → Putting to o
 rows-count {next = next} {out = out} p f l =
     let inside : next ≤ length out = omega arith in
     (inside, sym (length-take-le next out inside))
+
+-- The bytes of what the domains hold do.
+pub held-count : {long : ℕ} (out : List ℕ) → length out ≡ long → 64 ≤ long → Counts 64 out
+held-count out e l =
+    let inside : 64 ≤ length out = omega arith in
+    (inside, sym (length-take-le 64 out inside))
 
 -- ---- the blocks, from 0 to the number of steps
 

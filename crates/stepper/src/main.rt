@@ -4,10 +4,12 @@
 // where the step is refused or looks nothing up), the domain by which the cache took the step (2; 65535 where it took none: a selector write, a
 // core that is not in the list, and before the first step), and the rows: set (2), valid map (2), dirty map (2), replacement word (8), tags (8
 // each). An access or a flush, by a domain or a core, has the row of its set, a policy change has all rows, and so has the block before the
-// first step; other steps have none. A refused file gives nothing. A failed read or write is told on standard error.
+// first step; other steps have none. After the last block come, for each of the sixteen domains, the valid lines in its hit map over all sets (4).
+// A refused file gives nothing. A failed read or write is told on standard error.
 use command::Answer;
 use cores::Reply;
 use cores::Stepped;
+use domains::Domain;
 use domains::Domains;
 use geometry::Geometry;
 use geometry::Place;
@@ -269,6 +271,40 @@ fn show(
     io::write_all(STDOUT_FILENO, &out[..n])
 }
 
+// The valid lines in a domain's hit map, over all sets.
+fn held(ways: usize, own: Domain, valid: &[u16]) -> u64 {
+    let read = policy::as_read(
+        ways,
+        Maps {
+            hit: own.hit,
+            fill: own.fill,
+        },
+    );
+    sweep::lines_among(valid, read.hit) as u64
+}
+
+// Puts those of the sixteen domains at the front, and answers how many bytes they have.
+fn put_held(ways: usize, domains: Domains, valid: &[u16], out: &mut [u8]) -> usize
+    requires { ⌜ 64 ≤ length (now out) ⌝ }
+    ensures { λ r. ⌜ Counts r (now (out .exit)) ⌝ }
+{
+    let mut d = 0;
+    while d < 16 {
+        let own = domains.records[d];
+        put(held(ways, own, valid), 4, out, 4 * d);
+        d += 1;
+    }
+    64
+}
+
+// Writes them, and answers whether all was written.
+fn show_held(ways: usize, domains: Domains, valid: &[u16], out: &mut [u8]) -> bool
+    requires { ⌜ 64 ≤ length (now out) ⌝ }
+{
+    let n = put_held(ways, domains, valid, out);
+    io::write_all(STDOUT_FILENO, &out[..n])
+}
+
 // How many ways the lookup of a step visits, on the tables before it. Only an access or a flush has one.
 fn visits(
     g: Geometry,
@@ -455,7 +491,7 @@ fn block(
     take(g, file, n, i, tags, valid, dirty, words, after)
 }
 
-// Writes the blocks of a file that is not refused, on tables of its geometry, and answers whether all were written.
+// Writes the blocks of a file that is not refused, on tables of its geometry, and what the domains hold at the end, and answers whether all was written.
 fn run(
     g: Geometry,
     file: &[u8],
@@ -490,7 +526,8 @@ fn run(
         shown = block(g, file, n, i as u32, tags, valid, dirty, words, shown, out);
         i += 1;
     }
-    shown.written
+    let held = show_held(g.ways, shown.domains, valid, out);
+    both(shown.written, held)
 }
 
 // Lends the front of the tables, and the output.

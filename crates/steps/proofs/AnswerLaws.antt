@@ -27,9 +27,10 @@ use Rattle.geometry.specs.Inside.{Limited}
 use Rattle.geometry.specs.declared.Geometry.{Geometry}
 use Rattle.geometry.proofs.GeometryLaws.{rows-bound}
 use Rattle.steps.specs.Tables.{Tables, lengths, rowAt, total}
-use Rattle.steps.specs.Step.{State, onSet, rowEffect, useLine, changePolicy, stepBy, decided, step}
+use Rattle.steps.specs.Step.{State, onSet, rowEffect, useLine, droppedBy, changePolicy, dropsOf, stepBy, decided, step}
 use Rattle.steps.specs.Run.{stepOn}
-use Rattle.steps.proofs.SetLaws.{total-le}
+use Rattle.steps.proofs.TotalLaws.{total-le}
+use Rattle.steps.proofs.DropLaws.{row-lines-most}
 
 -- ---- no refusal has number 0
 
@@ -70,7 +71,8 @@ no-refusal-zero g c s e =
   where
     number : ℕ
     number =
-        refusal g (lengths (s .tables)) (policies (g .ways) (s .domains)) (domainOf (s .domains) (c .domain) .counts) (c .domain) (c .kind) (c .argument)
+        refusal g (lengths (s .tables)) (policies (g .ways) (s .domains)) (domainOf (s .domains) (c .domain) .counts)
+        (dropsOf g (c .domain) (c .argument) s) (c .domain) (c .kind) (c .argument)
 
 -- ---- what a policy change answers
 
@@ -85,7 +87,7 @@ policy-answer g d arg s =
     cases (eqb number 0) (λ t. rw t (changed _ _)) (λ t. rw t (turned-down number (eqb-false number 0 t)))
   where
     number : ℕ
-    number = refusal g (lengths (s .tables)) (policies (g .ways) (s .domains)) (domainOf (s .domains) d .counts) d 16 arg
+    number = refusal g (lengths (s .tables)) (policies (g .ways) (s .domains)) (domainOf (s .domains) d .counts) (dropsOf g d arg s) d 16 arg
 
 -- ---- how many lines a policy change can drop
 
@@ -95,14 +97,14 @@ unfolding dropped droppedDirty rowAt
 row-drops W i old new t =
     let r : Row = rowAt W i t in
     let short : length (r .tags) ≤ W = omega (arith, length-take W (drop (i * W) (t .tags))) in (
-      le-trans (count-le (length (r .tags)) (λ (w : ℕ). moved old new w && bit (r .valid) w)) short,
+      row-lines-most W i (moved old new) t,
       le-trans (count-le (length (r .tags)) (λ (w : ℕ). moved old new w && bit (r .valid) w && bit (r .dirty) w)) short,
     )
 
 -- in all no more than there are lines: "drop counts, now up to 65,536", whatever the tables hold
 pub drops-most : (g : Geometry) (d arg : ℕ) (s : State) → Limited g → {n m : ℕ} → step g d 16 arg s .answer ≡ 6 ∷ n ∷ m ∷ []
     → (n ≤ maxSets * 16) × (m ≤ maxSets * 16)
-unfolding step decided kindOf stepBy changePolicy
+unfolding step decided kindOf stepBy changePolicy droppedBy
 drops-most g d arg s l {n} {m} e =
     cases (eqb number 0)
     (λ t. let first : n ≡ lines (dropped old new) = cc (rw t at e) in
@@ -113,7 +115,7 @@ drops-most g d arg s l {n} {m} e =
     (λ t. let z : _≡_ {A = ℕ} 7 6 = cc (rw t at e) in absurd (omega arith))
   where
     number : ℕ
-    number = refusal g (lengths (s .tables)) (policies (g .ways) (s .domains)) (domainOf (s .domains) d .counts) d 16 arg
+    number = refusal g (lengths (s .tables)) (policies (g .ways) (s .domains)) (domainOf (s .domains) d .counts) (dropsOf g d arg s) d 16 arg
 
     old : Maps
     old = policies (g .ways) (s .domains) d

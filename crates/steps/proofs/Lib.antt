@@ -1,8 +1,10 @@
 -- The laws that the crates above cite.
 pub mod SetLaws
+pub mod TotalLaws
 pub mod StateLaws
 pub mod DidLaws
 pub mod RunLaws
 pub mod WordLaws
 pub mod AnswerLaws
+pub mod DropLaws
 pub mod Computing

@@ -3,7 +3,7 @@ use mathlib.Core.Path.{_≡_, refl, sym, ap, ap₂, subst, _∙_}
 use mathlib.Core.Bool.{true, _&&_}
 use mathlib.Core.List.{List, _++_, append-assoc}
 use Prim.Native.Nat.{ℕ, zero, suc, _+_, _-_, _*_, _≤_, _<_}
-use native.Mathlib.Nat.{mul-suc, mul-le-mul-right, suc-mul}
+use native.Mathlib.Nat.{mul-le-mul-right, suc-mul}
 use native.Mathlib.Omega.{arith}
 use lib.Dec.{eqb, ltb}
 use borrow.Author.Tests.{eqb-true, eqb-false, ltb-true, ltb-false}
@@ -14,7 +14,7 @@ use Rattle.row.specs.Row.{Row}
 use Rattle.geometry.specs.Geometry.{within, sized}
 use Rattle.geometry.specs.declared.Geometry.{Geometry}
 use Rattle.geometry.proofs.GeometryLaws.{limited}
-use Rattle.steps.specs.Tables.{Tables, lengths, rowAt, putRow, eachSet, total}
+use Rattle.steps.specs.Tables.{Tables, lengths, rowAt, putRow, eachSet}
 use Rattle.steps.specs.Inside.{Shaped}
 
 -- ---- lengths
@@ -174,9 +174,3 @@ module _ (g : Geometry) where
         (λ q. row-put-other (eachSet (g .ways) n f t) (f (rowAt (g .ways) n t)) (each-shaped n (omega arith)) n le
         (keeps (rowAt (g .ways) n t) ∙ row-long h n le) s (eqb-false s n q)
         ∙ each-row n (omega arith) s (omega (arith, eqb-false s n q)))
-
--- a sum over the sets is no more than the largest part each
-pub total-le : (W n k : ℕ) (f : Row → ℕ) (t : Tables) → ((s : ℕ) → s < n → f (rowAt W s t) ≤ k) → total W n f t ≤ k * n
-unfolding total
-total-le W zero k f t e = omega arith
-total-le W (suc n) k f t e = omega (arith, total-le W n k f t (λ s h. e s (omega arith)), e n (omega arith), mul-suc k n)

@@ -18,13 +18,15 @@ use Rattle.sweep.proofs.CleanLaws.{clean-long}
 use Rattle.command.specs.Command.{Command}
 use Rattle.command.specs.Kind.{kindOf}
 use Rattle.command.specs.declared.Answer.the-variants.{Refused}
-use Rattle.domains.specs.Domains.{domainOf, mapsOf, policies, usedDomain, newDomain}
+use Rattle.domains.specs.Domains.{domainOf, mapsOf, overflows, policies, usedDomain, newDomain}
+use Rattle.domains.specs.declared.Domain.{Domain}
 use Rattle.domains.proofs.DomainLaws as DomainLaws
-use Rattle.verdict.specs.Refusal.{sharesWay, sharesNode, sharingRefusal, policyRefusal, refusal}
+use Rattle.verdict.specs.Refusal.{refusal}
+use Rattle.verdict.proofs.PolicyLaws.{Passed, policy-passed}
 use Rattle.geometry.specs.Geometry.{within, sized}
 use Rattle.geometry.specs.declared.Geometry.{Geometry}
 use Rattle.steps.specs.Tables.{lengths, rowAt}
-use Rattle.steps.specs.Step.{State, answers, onSet, changePolicy, stepBy, decided, step}
+use Rattle.steps.specs.Step.{State, answers, onSet, droppedBy, dropsOf, changePolicy, stepBy, decided, step}
 use Rattle.steps.specs.Run.{stepOn}
 use Rattle.steps.specs.Inside.{Whole, numberBy, changeNumber, lineWork}
 use Rattle.steps.proofs.SetLaws.{put-shaped, row-put-same, row-put-other, each-shaped, each-row}
@@ -102,23 +104,15 @@ module _ (g : Geometry) (s : State) (whole : Whole g s) (e : ℕ) (k : e < 16) (
 
 -- ---- the state after a change of policy
 
--- what numbers 5, 8 and 9 let pass
-pub record Passed (g : Geometry) (policy : ℕ → Maps) (e arg : ℕ) : Type 0 where
-  pub good : badArgument (g .ways) arg ≡ false
-  pub ways-free : sharesWay policy e (newMaps arg) ≡ false
-  pub nodes-free : sharesNode (ruleOf (g .rule) (g .ways)) policy e (newMaps arg) ≡ false
-
+-- what numbers 5, 8 and 9 let pass, and number 7
 pub passed : (g : Geometry) (s : State) (e arg : ℕ) → changeNumber g e arg s ≡ 0 → Passed g (policies (g .ways) (s .domains)) e arg
-unfolding policyRefusal sharingRefusal
 passed g s e arg z =
-    let policy = policies (g .ways) (s .domains) in
-    cases (badArgument (g .ways) arg)
-    (λ t. absurd (suc-ne-zero 4 (rw t at z)))
-    (λ t. cases (sharesWay policy e (newMaps arg))
-    (λ u. absurd (suc-ne-zero 7 (rw (t, u) at z)))
-    (λ u. cases (sharesNode (ruleOf (g .rule) (g .ways)) policy e (newMaps arg))
-    (λ v. absurd (suc-ne-zero 8 (rw (t, u, v) at z)))
-    (λ v. record { good = t; ways-free = u; nodes-free = v })))
+    policy-passed g (policies (g .ways) (s .domains)) (domainOf (s .domains) e .counts) (dropsOf g e arg s) e arg z .1
+
+pub passed-room : (g : Geometry) (s : State) (e arg : ℕ) → changeNumber g e arg s ≡ 0
+    → overflows arg (dropsOf g e arg s) (domainOf (s .domains) e .counts) ≡ false
+passed-room g s e arg z =
+    policy-passed g (policies (g .ways) (s .domains)) (domainOf (s .domains) e .counts) (dropsOf g e arg s) e arg z .0
 
 module _ (g : Geometry) (e : ℕ) (k : e < 16) (arg : ℕ) (s : State) (whole : Whole g s) where
   abbrev W : ℕ
@@ -130,29 +124,32 @@ module _ (g : Geometry) (e : ℕ) (k : e < 16) (arg : ℕ) (s : State) (whole : 
   abbrev R : Rule
   R = ruleOf (g .rule) (g .ways)
 
+  abbrev record-after : Domain
+  record-after = newDomain arg (droppedBy g e arg s) (domainOf (s .domains) e)
+
   pub changed-whole : Whole g (changePolicy g e arg s .state)
   unfolding changePolicy
   changed-whole = record {
     shaped = each-shaped g (cleaned R (policies W (s .domains) e) next) (clean-long R (policies W (s .domains) e) next) (s .tables) (whole .shaped)
         (g .sets) (omega arith);
-    sixteen = DomainLaws.put-sixteen (s .domains) e (newDomain arg (domainOf (s .domains) e)) (whole .sixteen);
+    sixteen = DomainLaws.put-sixteen (s .domains) e _ (whole .sixteen);
   }
 
-  pub changed-domain : domainOf (changePolicy g e arg s .state .domains) e ≡ newDomain arg (domainOf (s .domains) e)
+  pub changed-domain : domainOf (changePolicy g e arg s .state .domains) e ≡ newDomain arg (droppedBy g e arg s) (domainOf (s .domains) e)
   unfolding changePolicy
-  changed-domain = DomainLaws.put-same (s .domains) e (newDomain arg (domainOf (s .domains) e)) (whole .sixteen) k
+  changed-domain = DomainLaws.put-same (s .domains) e record-after (whole .sixteen) k
 
   pub changed-other : (f : ℕ) → (f ≡ e → ⊥) → domainOf (changePolicy g e arg s .state .domains) f ≡ domainOf (s .domains) f
   unfolding changePolicy
-  changed-other f n = DomainLaws.put-other (s .domains) e (newDomain arg (domainOf (s .domains) e)) f n
+  changed-other f n = DomainLaws.put-other (s .domains) e record-after f n
 
   pub changed-policy : policies (g .ways) (changePolicy g e arg s .state .domains) e ≡ asRead (g .ways) (newMaps arg)
   unfolding changePolicy newDomain
-  changed-policy = DomainLaws.policy-same (s .domains) e (newDomain arg (domainOf (s .domains) e)) W (whole .sixteen) k
+  changed-policy = DomainLaws.policy-same (s .domains) e record-after W (whole .sixteen) k
 
   pub changed-policy-other : (f : ℕ) → (f ≡ e → ⊥) → policies (g .ways) (changePolicy g e arg s .state .domains) f ≡ policies (g .ways) (s .domains) f
   unfolding changePolicy
-  changed-policy-other f n = DomainLaws.policy-other (s .domains) e (newDomain arg (domainOf (s .domains) e)) W f n
+  changed-policy-other f n = DomainLaws.policy-other (s .domains) e record-after W f n
 
   pub changed-row : (i : ℕ) → i < g .sets → rowAt (g .ways) i (changePolicy g e arg s .state .tables)
       ≡ cleaned (ruleOf (g .rule) (g .ways)) (policies (g .ways) (s .domains) e) (asRead (g .ways) (newMaps arg)) (rowAt (g .ways) i (s .tables))

@@ -13,7 +13,7 @@ use Rattle.verdict.specs.Refusal.{policyRefusal, refusalBy}
 use Rattle.geometry.specs.Inside.{Limited}
 use Rattle.geometry.specs.declared.Geometry.{Geometry}
 use Rattle.steps.specs.Tables.{Tables}
-use Rattle.steps.specs.Step.{State}
+use Rattle.steps.specs.Step.{State, dropsOf}
 
 -- Tables of the right lengths under a geometry within the limits.
 pub record Shaped (g : Geometry) (t : Tables) : Type 0 where
@@ -30,10 +30,10 @@ pub record Whole (g : Geometry) (s : State) : Type 0 where
 
 -- The number by which a step of some kind is turned down in a state, and that of a change of policy; 0 for none.
 abbrev pub numberBy : Kind → Geometry → ℕ → ℕ → State → ℕ
-numberBy k g d arg s = refusalBy k g (policies (g .ways) (s .domains)) (domainOf (s .domains) d .counts) d arg
+numberBy k g d arg s = refusalBy k g (policies (g .ways) (s .domains)) (domainOf (s .domains) d .counts) (dropsOf g d arg s) d arg
 
 abbrev pub changeNumber : Geometry → ℕ → ℕ → State → ℕ
-changeNumber g d arg s = policyRefusal g (policies (g .ways) (s .domains)) d arg
+changeNumber g d arg s = policyRefusal g (policies (g .ways) (s .domains)) (domainOf (s .domains) d .counts) (dropsOf g d arg s) d arg
 
 -- An access or a flush, under a rule.
 abbrev pub lineWork : Bool → Rule → Bool → Maps → ℕ → Row → Effect

@@ -7,14 +7,14 @@ use Rattle.replacement.specs.Rule.{ruleOf}
 use Rattle.command.specs.Answer.{answerOf}
 use Rattle.row.specs.Row as Row
 use Rattle.row.specs.Row.{Row, Effect}
-use Rattle.sweep.specs.Clean.{dropped, droppedDirty, cleaned}
+use Rattle.sweep.specs.Clean.{dropWays, dropped, droppedDirty, cleaned}
 use Rattle.policy.specs.Policy.{asRead, newMaps}
 use Rattle.policy.specs.declared.Maps.{Maps}
 use Rattle.command.specs.declared.Answer.{Answer}
 use Rattle.command.specs.declared.Answer.the-variants.{Policy, Refused}
 use Rattle.domains.specs.Domains.{domainOf, policies, putDomain, usedDomain, newDomain}
 use Rattle.command.specs.Kind.{Kind, access, flush, policy, unknown, kindOf}
-use Rattle.verdict.specs.Refusal.{refusal}
+use Rattle.verdict.specs.Refusal.{heldElsewhere, refusal}
 use Rattle.geometry.specs.declared.Geometry.{Geometry}
 use Rattle.domains.specs.declared.Domains.{Domains}
 use Rattle.geometry.specs.Address.{setOf, tagOf}
@@ -52,19 +52,32 @@ useLine g work d address s = onSet g d (setOf g address) (rowEffect g work d add
 
 -- ---- Policy
 
+-- "the number of valid lines dropped", in all sets.
+unfoldable pub droppedBy : Geometry → ℕ → ℕ → State → ℕ
+droppedBy g d arg s =
+    total (g .ways) (g .sets) (dropped (policies (g .ways) (s .domains) d) (asRead (g .ways) (newMaps arg))) (s .tables)
+
 -- "Ways in exactly one of the old and new hit maps are cleaned in every set", the rule resets every replacement word, and the answer is
--- what was dropped in all.
+-- what was dropped in all. The domain's count of dropped lines rises by as many.
 unfoldable pub changePolicy : Geometry → ℕ → ℕ → State → Outcome
 changePolicy g d arg s =
     let W = g .ways in
     let old = policies W (s .domains) d in
     let new = asRead W (newMaps arg) in
     answers
-    (Policy (total W (g .sets) (dropped old new) (s .tables)) (total W (g .sets) (droppedDirty old new) (s .tables)))
+    (Policy (droppedBy g d arg s) (total W (g .sets) (droppedDirty old new) (s .tables)))
     (record {
       tables = eachSet W (g .sets) (cleaned (ruleOf (g .rule) W) old new) (s .tables);
-      domains = putDomain d (newDomain arg (domainOf (s .domains) d)) (s .domains);
+      domains = putDomain d (newDomain arg (droppedBy g d arg s) (domainOf (s .domains) d)) (s .domains);
     })
+
+-- The drops that number 7 looks at, of a change of policy that may yet be turned down: the lines that it would clean, but for those in ways
+-- that it would take from another domain. Of a change that number 8 lets pass they are all that it drops (`drops-all`).
+unfoldable pub dropsOf : Geometry → ℕ → ℕ → State → ℕ
+dropsOf g d arg s =
+    let W = g .ways in
+    let p = policies W (s .domains) in
+    total W (g .sets) (Row.linesIn (dropWays (p d) (asRead W (newMaps arg)) (heldElsewhere p d))) (s .tables)
 
 -- ---- A step
 
@@ -82,7 +95,7 @@ decided n done s = cond (eqb n 0) done (answers (Refused n) s)
 unfoldable pub step : Geometry → ℕ → ℕ → ℕ → State → Outcome
 step g d kind arg s =
     decided
-    (refusal g (lengths (s .tables)) (policies (g .ways) (s .domains)) (domainOf (s .domains) d .counts) d kind arg)
+    (refusal g (lengths (s .tables)) (policies (g .ways) (s .domains)) (domainOf (s .domains) d .counts) (dropsOf g d arg s) d kind arg)
     (stepBy (kindOf kind) g d arg s) s
 
 -- The four lent tables, as the code has them.

@@ -1,18 +1,19 @@
 -- What a change of policy does to one line: what it cleans, what it leaves alone, and what its drops go by.
-use mathlib.Core.Path.{_≡_, sym, ap₂, _∙_}
-use mathlib.Core.Bool.{true, false, cond, _&&_}
-use Prim.Native.Nat.{ℕ, _≤_, _<_}
+use mathlib.Core.Path.{_≡_, refl, sym, ap₂, _∙_}
+use mathlib.Core.Bool.{Bool, true, false, cond, _&&_, xor, true≢false}
+use Prim.Native.Nat.{ℕ, _+_, _≤_, _<_}
 use native.Mathlib.Nat.{lt-of-lt-of-le}
 use lib.ListN.{length}
-use Rattle.waymap.specs.Bits.{Bits, bit}
+use Rattle.waymap.specs.Bits.{Bits, bit, digit}
 use Rattle.waymap.proofs.Booleans.{cases}
 use Rattle.waymap.proofs.WordLaws.{bit-word-in}
-use Rattle.waymap.proofs.WayLaws.{count-ext}
+use Rattle.waymap.proofs.WayLaws.{count-ext, count-sum}
 use Rattle.replacement.specs.Rule.{Rule}
 use Rattle.policy.specs.declared.Maps.{Maps}
-use Rattle.row.specs.Row.{Row}
+use Rattle.row.specs.Row.{Row, linesIn}
 use Rattle.row.specs.View.{SameLine}
 use Rattle.row.proofs.LineLaws.{line-trans, line-sym}
+use Rattle.row.proofs.LinesLaws.{lines-same}
 use Rattle.sweep.specs.Clean.{moved, without, dropped, droppedDirty, cleaned}
 use Rattle.sweep.proofs.TagLaws.{wiped-length, wiped-at}
 
@@ -51,7 +52,7 @@ module _ {W : ℕ} (R : Rule) (few : W ≤ 16) (old new : Maps) where
   -- the drops go by the lines in the ways that move
   module _ (r q : Row) (long-r : length (r .tags) ≡ W) (long-q : length (q .tags) ≡ W) (e : (v : ℕ) → v < W → moved old new v ≡ true → SameLine r q v) where
     pub drops-same : dropped old new r ≡ dropped old new q
-    unfolding dropped
+    unfolding dropped linesIn
     drops-same =
         rw (long-r, long-q)
         (count-ext W (λ w h. cases (moved old new w) (λ t. rw t (e w h t .valid)) (λ t. rw t)))
@@ -67,3 +68,39 @@ module _ {W : ℕ} (R : Rule) (few : W ≤ 16) (old new : Maps) where
 pub clean-long : (R : Rule) (old new : Maps) (r : Row) → length (cleaned R old new r .tags) ≡ length (r .tags)
 unfolding cleaned
 clean-long R old new r = wiped-length (moved old new) (r .tags)
+
+-- ---- the lines in some ways
+
+module _ {W : ℕ} (R : Rule) (few : W ≤ 16) (old new : Maps) (r : Row) (long : length (r .tags) ≡ W) where
+  -- in ways that do not move there are as many as before
+  pub clean-lines : (map : Bits) → ((w : ℕ) → w < W → map w ≡ true → moved old new w ≡ false) → linesIn map (cleaned R old new r) ≡ linesIn map r
+  clean-lines map apart =
+      lines-same map (cleaned R old new r) r (clean-long R old new r)
+      (λ w h t. let k : w < W = rw long at h in clean-leaves R few old new r w k (apart w k t) .valid)
+
+  -- Where the ways that are gained have no line, the lines of the old hit map are those of the new one and those that were dropped.
+  pub clean-own : ((w : ℕ) → w < W → bit (old .hit) w ≡ false → bit (new .hit) w ≡ true → bit (r .valid) w ≡ false)
+      → linesIn (bit (new .hit)) (cleaned R old new r) + dropped old new r ≡ linesIn (bit (old .hit)) r
+  unfolding linesIn dropped cleaned moved xor
+  clean-own gained =
+      rw (clean-long R old new r, long)
+      (count-sum W (λ (w : ℕ). bit (new .hit) w && bit (cleaned R old new r .valid) w) (λ (w : ℕ). moved old new w && bit (r .valid) w)
+      (λ (w : ℕ). bit (old .hit) w && bit (r .valid) w)
+      (λ w h. each w h))
+    where
+      -- way by way, by whether the old map has it, the new one has it, and it is valid
+      by : (o n v : Bool) → (o ≡ false → n ≡ true → v ≡ false) → digit (n && cond (xor o n) false v) + digit (xor o n && v) ≡ digit (o && v)
+      by true true true f = refl
+      by true true false f = refl
+      by true false true f = refl
+      by true false false f = refl
+      by false true true f = absurd (true≢false (f refl refl))
+      by false true false f = refl
+      by false false v f = refl
+
+      each : (w : ℕ) → w < W
+          → digit (bit (new .hit) w && bit (cleaned R old new r .valid) w) + digit (moved old new w && bit (r .valid) w)
+          ≡ digit (bit (old .hit) w && bit (r .valid) w)
+      each w h =
+          rw (without-bit (moved old new) (r .valid) w (lt-of-lt-of-le h few))
+          (by (bit (old .hit) w) (bit (new .hit) w) (bit (r .valid) w) (gained w h))

@@ -3,3 +3,4 @@ pub mod TagLaws
 pub mod SweepLaws
 pub mod CleanLaws
 pub mod DropLaws
+pub mod NumberLaws

@@ -1,6 +1,6 @@
 -- A change of policy worked out once is, on each set, what the rules say of it.
-use mathlib.Core.Path.{_≡_, ap, fun-ext, _∙_}
-use mathlib.Core.Bool.{Bool, true, false, _&&_, xor, and-true, and-false}
+use mathlib.Core.Path.{_≡_, ap, ap₂, fun-ext, _∙_}
+use mathlib.Core.Bool.{Bool, true, false, not, _&&_, xor, and-true, and-false}
 use Prim.Native.Nat.{ℕ, _-_, _^_, _≤_, _<_}
 use native.Mathlib.Nat.{lt-of-le-of-lt, lt-of-lt-of-le}
 use lib.Dec.{ltb}
@@ -19,10 +19,10 @@ use Rattle.replacement.proofs.CallLaws.{change-resets}
 use Rattle.policy.specs.Policy.{asRead}
 use Rattle.policy.specs.declared.Maps.{Maps}
 use Rattle.policy.proofs.ReadLaws as ReadLaws
-use Rattle.row.specs.Row.{Row, ways}
+use Rattle.row.specs.Row.{Row, ways, linesIn}
 use Rattle.command.specs.declared.Answer.the-variants.{Policy}
 use Rattle.row.proofs.RuleLaws.{most-ways}
-use Rattle.sweep.specs.Clean.{moved, without, wiped, dropped, droppedDirty, cleaned, clean}
+use Rattle.sweep.specs.Clean.{moved, without, wiped, dropWays, dropped, droppedDirty, cleaned, clean}
 use Rattle.sweep.specs.Sweep.{sweepOf, drops, sweptLines, sweepBy}
 
 pub without-is : (gone map : ℕ) → gone < 2 ^ 16 → map < 2 ^ 16 → bitAnd map (2 ^ 16 - 1 - gone) ≡ without (bit gone) map
@@ -39,6 +39,25 @@ moved-bits old new = fun-ext (λ w. bit-xor (old .hit) (new .hit) w)
 moved-within : (W : ℕ) (old new : Maps) → old .hit < 2 ^ W → new .hit < 2 ^ W → (i : ℕ) → W ≤ i → moved old new i ≡ false
 unfolding moved xor
 moved-within W old new h k i l = rw (bit-high W (old .hit) i h l, bit-high W (new .hit) i k l)
+
+-- the ways whose lines are dropped, without those that other domains hold
+pub drop-ways-is : (old new : Maps) (held : ℕ) → old .hit < 2 ^ 16 → new .hit < 2 ^ 16
+    → bitAnd (bitXor (old .hit) (new .hit)) (2 ^ 16 - 1 - bitAnd (new .hit) held) ≡ word 16 (dropWays old new (bit held))
+unfolding dropWays moved
+drop-ways-is old new held h k =
+    let taken : ℕ = bitAnd (new .hit) held in
+    let all : ℕ = bitXor (old .hit) (new .hit) in
+    let small : all < 2 ^ 16 = xor-lt 16 (old .hit) (new .hit) h k in
+    from-bits 16 (lt-of-le-of-lt (and-le-l all (2 ^ 16 - 1 - taken)) small)
+    (λ i l.
+    bit-and all (2 ^ 16 - 1 - taken) i
+    ∙ ap₂ _&&_ (bit-xor (old .hit) (new .hit) i)
+    (bit-not 16 taken i (lt-of-le-of-lt (and-le-l (new .hit) held) k) ∙ rw (lt-ltb i 16 l) (ap not (bit-and (new .hit) held i))))
+
+-- they are within the number of ways
+pub drop-beyond : (W : ℕ) (old new : Maps) (held : Bits) (i : ℕ) → W ≤ i → dropWays (asRead W old) (asRead W new) held i ≡ false
+unfolding dropWays
+drop-beyond W old new held i h = rw (moved-within W (asRead W old) (asRead W new) (ReadLaws.hit-below W old) (ReadLaws.hit-below W new) i h)
 
 -- what is worked out from the maps as read
 pub sweep-is : (W rule : ℕ) (old new : Maps) {was next : Maps} {change : Change} → was ≡ asRead W old → next ≡ asRead W new
@@ -95,7 +114,7 @@ module _ (rule : ℕ) (old new : Maps) (r : Row) (limits : inLimits (ways r) rul
       (ReadLaws.fill-within W old) (ReadLaws.fill-within W new)
 
   pub sweep-cleans : sweepBy (sweepOf W rule old new) r ≡ clean (ruleOf rule W) was next r
-  unfolding sweepBy drops sweptLines clean cleaned dropped droppedDirty
+  unfolding sweepBy drops sweptLines clean cleaned linesIn dropped droppedDirty
   sweep-cleans = λ i. record {
     answer = Policy (counted (bit (r .valid)) i) (both i);
     row = record {

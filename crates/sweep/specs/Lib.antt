@@ -2,3 +2,4 @@
 pub mod Clean
 pub mod Sweep
 pub mod Drops
+pub mod Number

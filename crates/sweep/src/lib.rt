@@ -1,14 +1,19 @@
 // A change of policy: worked out from the maps once, and then done to one set after another.
 mod lines;
+mod number;
 mod tags;
 
 use command::Answer;
+pub use number::lines_among;
 use policy::Maps;
 use replacement::Change;
 use row::Done;
 use row::Lines;
 ghost use mathlib.Core.Path.{_≡_};
+ghost use Rattle.waymap.specs.Bits.{bit, word};
+ghost use Rattle.policy.specs.Policy.{asRead};
 ghost use Rattle.row.specs.Calls.{rowOf, result, told};
+ghost use Rattle.sweep.specs.Clean.{dropWays};
 ghost use Rattle.sweep.specs.Sweep.{sweepOf, sweepBy};
 ghost use Rattle.sweep.specs.Drops.{dropsIn, addedTo};
 
@@ -28,6 +33,16 @@ pub fn sweep_of(ways: usize, rule: usize, old: Maps, new: Maps) -> Sweep
         gone: was.hit ^ next.hit,
         change: replacement::change_of(ways, rule, was.fill, next.fill),
     }
+}
+
+// The ways whose lines a change of policy drops, given the ways that other domains hold.
+pub fn drop_ways(ways: usize, old: Maps, new: Maps, held: u16) -> u16
+    ensures { λ r. ⌜ r ≡ word 16 (dropWays (asRead ways old) (asRead ways new) (bit held)) ⌝ }
+{
+    let was = policy::as_read(ways, old);
+    let next = policy::as_read(ways, new);
+    let taken = next.hit & held;
+    (was.hit ^ next.hit) & !taken
 }
 
 // What it does to the set.

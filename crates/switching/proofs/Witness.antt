@@ -4,7 +4,7 @@ use mathlib.Core.Bool.{cond}
 use mathlib.Core.List.{List, [], _∷_}
 use Prim.Native.Nat.{ℕ}
 use Rattle.command.specs.Command.{Command}
-use Rattle.domains.specs.Domains.{domainOf}
+use Rattle.domains.specs.Domains.{noCounts, domainOf}
 use Rattle.geometry.specs.declared.Geometry.{Geometry}
 use Rattle.selectors.specs.Selectors.{freshCores, Meant, plain, select, refused, meant, recordsAfter}
 use Rattle.selectors.specs.declared.Core.{Core}
@@ -44,9 +44,9 @@ pub record Answers : Type 0 where
   pub one : ownCoreAnswers small 1 steps (freshLent small 2) ≡ (6 ∷ 0 ∷ 0 ∷ []) ∷ (1 ∷ 2 ∷ []) ∷ (1 ∷ 3 ∷ []) ∷ (7 ∷ 8 ∷ []) ∷ []
   pub others : coreVerdicts small 0 steps (freshLent small 2) ≡ 0 ∷ 8 ∷ []
   pub neighbour : domainOf (coreFinally small steps (freshLent small 2) .cache .domains) 1 .counts
-      ≡ record { hits = 0; misses = 2; evicted = 0; written = 0; flushed = 0 }
+      ≡ record { hits = 0; misses = 2; evicted = 0; written = 0; flushed = 0; fills = 2; dropped = 0 }
   pub neighbour-struck : domainOf (coreFinally small (corePurge 0 (freshCores 2) steps) (freshLent small 2) .cache .domains) 1 .counts
-      ≡ record { hits = 0; misses = 0; evicted = 0; written = 0; flushed = 0 }
+      ≡ noCounts
 
 pub answers : Answers
 unfolding coreComputing corePurge keepsBy keeps coreAnswersTo ownCoreAnswers coreVerdicts numberOf

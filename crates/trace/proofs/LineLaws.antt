@@ -85,24 +85,24 @@ module _ (W d : ℕ) (x : Domain) (w : Written) {read : Maps} (is : read ≡ asR
 -- After d domains: the domains to come make the whole.
 pub record Naming (W : ℕ) (domains : Domains) (out₀ : List ℕ) (at : ℕ) (out : List ℕ) (next d : ℕ) : Type 0 where
   pub inside : d ≤ 16
-  pub fits : at + 2128 ≤ length out₀
-  pub behind : next ≤ at + 133 * d
+  pub fits : at + 2800 ≤ length out₀
+  pub behind : next ≤ at + 175 * d
   pub long : length out ≡ length out₀
   pub is : append (domainLines W domains d (16 - d)) (writtenOf next out) ≡ append (domainLines W domains 0 16) (writtenOf at out₀)
 
-pub name-begin : (W : ℕ) (domains : Domains) (out : List ℕ) (at : ℕ) → at + 2128 ≤ length out → Naming W domains out at out at 0
+pub name-begin : (W : ℕ) (domains : Domains) (out : List ℕ) (at : ℕ) → at + 2800 ≤ length out → Naming W domains out at out at 0
 name-begin W domains out at h = record { inside = omega arith; fits = h; behind = omega arith; long = refl; is = refl }
 
 -- Room for the next domain's line.
 pub name-room : {W : ℕ} {domains : Domains} {out₀ out : List ℕ} {at next d : ℕ} → Naming W domains out₀ at out next d → d < 16
-    → next + 133 ≤ length out
+    → next + 175 ≤ length out
 name-room p h = omega arith
 
-pub name-short : {W : ℕ} {domains : Domains} {out₀ out : List ℕ} {at next d : ℕ} → Naming W domains out₀ at out next d → next ≤ at + 2128
+pub name-short : {W : ℕ} {domains : Domains} {out₀ out : List ℕ} {at next d : ℕ} → Naming W domains out₀ at out next d → next ≤ at + 2800
 name-short p = omega arith
 
 pub name-turned : {W : ℕ} {domains : Domains} {out₀ out new : List ℕ} {at next after d : ℕ} → Naming W domains out₀ at out next d → d < 16
-    → writtenOf after new ≡ append (domainPart W d (domainOf domains d)) (writtenOf next out) → after ≤ next + 133
+    → writtenOf after new ≡ append (domainPart W d (domainOf domains d)) (writtenOf next out) → after ≤ next + 175
     → Naming W domains out₀ at new after (d + 1)
 unfolding domainLines
 name-turned {W} {domains} {out₀} {out} {new} {at} {next} {after} {d} p h e b =

@@ -36,14 +36,14 @@ run-next g file n i k x w o e =
 -- After i steps: the steps to come make the whole.
 pub record Running (g : Geometry) (file : List ℕ) (n : ℕ) (x₀ : Lent) (out₀ : List ℕ) (at : ℕ) (x : Lent) (out : List ℕ) (next i : ℕ) : Type 0 where
   pub inside : i ≤ n
-  pub fits : at + (92 * n + 2128) ≤ length out₀
+  pub fits : at + (92 * n + 2800) ≤ length out₀
   pub behind : next ≤ at + 92 * i
   pub long : length out ≡ length out₀
   pub tables-long : lengths (x .cache .tables) ≡ lengths (x₀ .cache .tables)
   pub cores-long : length (x .cores) ≡ maxCores
   pub is : runTo g file n i (n - i) x (writtenOf next out) ≡ runTo g file n 0 n x₀ (writtenOf at out₀)
 
-pub run-begin : (g : Geometry) (file : List ℕ) (n : ℕ) (x : Lent) (out : List ℕ) (at : ℕ) → at + (92 * n + 2128) ≤ length out → length (x .cores) ≡ maxCores
+pub run-begin : (g : Geometry) (file : List ℕ) (n : ℕ) (x : Lent) (out : List ℕ) (at : ℕ) → at + (92 * n + 2800) ≤ length out → length (x .cores) ≡ maxCores
     → Running g file n x out at x out at 0
 run-begin g file n x out at h l = record {
   inside = omega arith;
@@ -83,11 +83,11 @@ run-turned {g} {file} {n} {x₀} {x} {out₀} {out} {new} {at} {next} {after} {i
 
 -- Room for the lines of the domains.
 pub run-rest : {g : Geometry} {file : List ℕ} {n : ℕ} {x₀ x : Lent} {out₀ out : List ℕ} {at next i : ℕ}
-    → Running g file n x₀ out₀ at x out next i → next + 2128 ≤ length out
+    → Running g file n x₀ out₀ at x out next i → next + 2800 ≤ length out
 run-rest p = omega arith
 
 pub run-short : {g : Geometry} {file : List ℕ} {n : ℕ} {x₀ x : Lent} {out₀ out : List ℕ} {at next i r : ℕ}
-    → Running g file n x₀ out₀ at x out next i → r ≤ next + 2128 → r ≤ at + (92 * n + 2128)
+    → Running g file n x₀ out₀ at x out next i → r ≤ next + 2800 → r ≤ at + (92 * n + 2800)
 run-short p h = omega arith
 
 run-end : {g : Geometry} {file : List ℕ} {n : ℕ} {x₀ x : Lent} {out₀ out : List ℕ} {at next i : ℕ} → Running g file n x₀ out₀ at x out next i → n ≤ i
@@ -115,10 +115,10 @@ run-ended {g} {file} {n} {x₀} {x} {out₀} {out} {last} {at} p h d k e =
 pub room-for-head : {long : ℕ} → 393216 ≤ long → 0 + 84 ≤ long
 room-for-head l = omega arith
 
-pub room-for-lines : {head n now long : ℕ} → head ≤ 84 → now ≡ long → n ≤ maxSteps → 393216 ≤ long → head + (92 * n + 2128) ≤ now
+pub room-for-lines : {head n now long : ℕ} → head ≤ 84 → now ≡ long → n ≤ maxSteps → 393216 ≤ long → head + (92 * n + 2800) ≤ now
 room-for-lines h e s l = omega arith
 
-pub listing-short : {r head n : ℕ} → r ≤ head + (92 * n + 2128) → head ≤ 84 → n ≤ maxSteps → r ≤ 393216
+pub listing-short : {r head n : ℕ} → r ≤ head + (92 * n + 2800) → head ≤ 84 → n ≤ maxSteps → r ≤ 393216
 listing-short r h s = omega arith
 
 fresh-is : (g : Geometry) (t new : Tables) (n : ℕ) → within g ≡ true → sized g (lengths t) ≡ true → madeOf n new ≡ freshOf g t → new ≡ freshTables g

@@ -36,12 +36,12 @@ fn run(
     out: &mut [u8],
     at: usize,
 ) -> usize
-    requires { ⌜ at + (92 * steps + 2128) ≤ length (now out) ⌝ }
+    requires { ⌜ at + (92 * steps + 2800) ≤ length (now out) ⌝ }
     ensures { λ r. ⌜
         listedBy (tablesOf (now (tags .exit)) (now (valid .exit)) (now (dirty .exit)) (now (words .exit))) (writtenOf r (now (out .exit)))
         ≡ ranBy g (now (file .entry)) steps
         (tablesOf (now (tags .entry)) (now (valid .entry)) (now (dirty .entry)) (now (words .entry))) (writtenOf at (now (out .entry))) ⌝ }
-    ensures { λ r. ⌜ r ≤ at + (92 * steps + 2128) ⌝ }
+    ensures { λ r. ⌜ r ≤ at + (92 * steps + 2800) ⌝ }
 {
     let mut cores = [Core {
         cs: 0,

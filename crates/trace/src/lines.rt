@@ -115,9 +115,9 @@ pub fn answer(place: u32, reply: Reply, out: &mut [u8], at: usize) -> usize
 
 // The line of a domain.
 fn domain(number: usize, counts: Counts, out: &mut [u8], at: usize) -> usize
-    requires { ⌜ at + 133 ≤ length (now out) ⌝ }
+    requires { ⌜ at + 175 ≤ length (now out) ⌝ }
     ensures { λ r. ⌜ writtenOf r (now (out .exit)) ≡ append (domainLine number counts) (writtenOf at (now (out .entry))) ⌝ }
-    ensures { λ r. ⌜ r ≤ at + 133 ⌝ }
+    ensures { λ r. ⌜ r ≤ at + 175 ⌝ }
 {
     let values = [
         number as u64,
@@ -126,15 +126,17 @@ fn domain(number: usize, counts: Counts, out: &mut [u8], at: usize) -> usize
         counts.evicted as u64,
         counts.written as u64,
         counts.flushed as u64,
+        counts.fills as u64,
+        counts.dropped as u64,
     ];
     text::told(b"domain", &values, out, at)
 }
 
 // The line of a domain whose hit map is not empty; of another nothing.
 fn part(ways: usize, number: usize, own: Domain, out: &mut [u8], at: usize) -> usize
-    requires { ⌜ at + 133 ≤ length (now out) ⌝ }
+    requires { ⌜ at + 175 ≤ length (now out) ⌝ }
     ensures { λ r. ⌜ writtenOf r (now (out .exit)) ≡ append (domainPart ways number own) (writtenOf at (now (out .entry))) ⌝ }
-    ensures { λ r. ⌜ r ≤ at + 133 ⌝ }
+    ensures { λ r. ⌜ r ≤ at + 175 ⌝ }
 {
     let stored = Maps {
         hit: own.hit,
@@ -149,9 +151,9 @@ fn part(ways: usize, number: usize, own: Domain, out: &mut [u8], at: usize) -> u
 
 // The domains' lines.
 pub fn domains(ways: usize, domains: Domains, out: &mut [u8], at: usize) -> usize
-    requires { ⌜ at + 2128 ≤ length (now out) ⌝ }
+    requires { ⌜ at + 2800 ≤ length (now out) ⌝ }
     ensures { λ r. ⌜ writtenOf r (now (out .exit)) ≡ append (domainLines ways domains 0 16) (writtenOf at (now (out .entry))) ⌝ }
-    ensures { λ r. ⌜ r ≤ at + 2128 ⌝ }
+    ensures { λ r. ⌜ r ≤ at + 2800 ⌝ }
 {
     let mut next = at;
     let mut d = 0;

@@ -132,9 +132,9 @@ not-full p c e =
 
 -- ---- what is not turned down
 
-module _ (g : Geometry) (n : Lengths) (policies : ℕ → Maps) (c : Counts) (d kind arg : ℕ) where
+module _ (g : Geometry) (n : Lengths) (policies : ℕ → Maps) (c : Counts) (drops d kind arg : ℕ) where
   -- the verdict by what its tests find
-  pub by-sizes : {m : ℕ} → m ≡ sizesOf g n → (m ≡ 0 → ⊥) → m ≡ refusal g n policies c d kind arg
+  pub by-sizes : {m : ℕ} → m ≡ sizesOf g n → (m ≡ 0 → ⊥) → m ≡ refusal g n policies c drops d kind arg
   unfolding sizesOf refusal
   by-sizes {m} e z =
       cases (within g)
@@ -147,31 +147,31 @@ module _ (g : Geometry) (n : Lengths) (policies : ℕ → Maps) (c : Counts) (d 
     passed : (within g ≡ true) × (sized g n ≡ true)
     passed = sizes-passed g n e z
 
-    pub by-domain : 16 ≤ d → 3 ≡ refusal g n policies c d kind arg
+    pub by-domain : 16 ≤ d → 3 ≡ refusal g n policies c drops d kind arg
     unfolding refusal
     by-domain h = rw (passed .0, passed .1, le-leb 16 d h)
 
-    by-kind : {k : Kind} {r : ℕ} → d < 16 → k ≡ kindOf kind → r ≡ refusalBy k g policies c d arg → r ≡ refusal g n policies c d kind arg
+    by-kind : {k : Kind} {r : ℕ} → d < 16 → k ≡ kindOf kind → r ≡ refusalBy k g policies c drops d arg → r ≡ refusal g n policies c drops d kind arg
     unfolding refusal
     by-kind h k q = rw (passed .0, passed .1, lt-leb 16 d h, ← k) q
 
     module _ (q : Asked) (k : kindIs q ≡ kindOf kind) (h : d < 16) where
-      pub by-line : {r : ℕ} → tagOf AskedType.the-type q ≡ 0 → r ≡ useRefusal (policies d) c → r ≡ refusal g n policies c d kind arg
+      pub by-line : {r : ℕ} → tagOf AskedType.the-type q ≡ 0 → r ≡ useRefusal (policies d) c → r ≡ refusal g n policies c drops d kind arg
       unfolding refusalBy
       by-line {r} t u = by-kind h k (line-is q t)
         where
-          line-is : (x : Asked) → tagOf AskedType.the-type x ≡ 0 → r ≡ refusalBy (kindIs x) g policies c d arg
+          line-is : (x : Asked) → tagOf AskedType.the-type x ≡ 0 → r ≡ refusalBy (kindIs x) g policies c drops d arg
           line-is (AskedIs.Line Load) y = u
           line-is (AskedIs.Line Store) y = u
           line-is (AskedIs.Line Flush) y = u
           line-is AskedIs.Policy y = absurd (omega arith)
           line-is AskedIs.Unknown y = absurd (omega arith)
 
-      pub by-policy : {r : ℕ} → tagOf AskedType.the-type q ≡ 1 → r ≡ policyRefusal g policies d arg → r ≡ refusal g n policies c d kind arg
+      pub by-policy : {r : ℕ} → tagOf AskedType.the-type q ≡ 1 → r ≡ policyRefusal g policies c drops d arg → r ≡ refusal g n policies c drops d kind arg
       unfolding refusalBy
       by-policy t u = by-kind h (asked-policy q t ∙ k) u
 
-      pub by-unknown : tagOf AskedType.the-type q ≡ 2 → 4 ≡ refusal g n policies c d kind arg
+      pub by-unknown : tagOf AskedType.the-type q ≡ 2 → 4 ≡ refusal g n policies c drops d kind arg
       unfolding refusalBy
       by-unknown t = by-kind h (asked-unknown q t ∙ k) refl
 
@@ -180,9 +180,9 @@ module _ (g : Geometry) (n : Lengths) (policies : ℕ → Maps) (c : Counts) (d 
     pub within-is : within g ≡ true
     pub sized-is : sized g n ≡ true
     pub domain-lt : d < 16
-    pub kind-is : refusalBy (kindOf kind) g policies c d arg ≡ 0
+    pub kind-is : refusalBy (kindOf kind) g policies c drops d arg ≡ 0
 
-  pub stands : {m : ℕ} → m ≡ refusal g n policies c d kind arg → m ≡ 0 → Stands
+  pub stands : {m : ℕ} → m ≡ refusal g n policies c drops d kind arg → m ≡ 0 → Stands
   unfolding refusal
   stands {m} q z =
       let e = sym q ∙ z in

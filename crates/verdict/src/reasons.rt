@@ -121,13 +121,23 @@ fn sharing_refusal(g: Geometry, policies: Policies, d: usize, argument: u64) -> 
     0
 }
 
-// Numbers 5, 8 and 9, within the limits; 0 for none.
-pub fn change_refusal(g: Geometry, policies: Policies, d: usize, argument: u64) -> usize
+// Numbers 5, 7, 8 and 9, within the limits; 0 for none.
+pub fn change_refusal(
+    g: Geometry,
+    policies: Policies,
+    counts: Counts,
+    drops: usize,
+    d: usize,
+    argument: u64,
+) -> usize
     requires { ⌜ inLimits (g .ways) (g .rule) ≡ true ⌝ }
-    ensures { λ r. ⌜ r ≡ policyRefusal g (readBy (g .ways) policies) d argument ⌝ }
+    ensures { λ r. ⌜ r ≡ policyRefusal g (readBy (g .ways) policies) counts drops d argument ⌝ }
 {
     if policy::bad_argument(g.ways, argument) {
         return 5;
+    }
+    if domains::overflows(argument, drops, counts) {
+        return 7;
     }
     sharing_refusal(g, policies, d, argument)
 }

@@ -194,6 +194,11 @@ unfolding count
 count-le zero p = zero-le
 count-le (suc n) p = omega (arith, digit-lt (p 0), count-le n (λ (i : ℕ). p (suc i)))
 
+pub count-none : (n : ℕ) {p : Bits} → ((i : ℕ) → i < n → p i ≡ false) → count n p ≡ 0
+unfolding count
+count-none zero e = refl
+count-none (suc n) {p} e = rw (e 0 (omega arith)) (omega (arith, count-none n {p = λ i. p (suc i)} (λ i h. e (suc i) (omega arith))))
+
 -- no way passes from k on
 pub count-wider : (k n : ℕ) (p : Bits) → k ≤ n → ((i : ℕ) → k ≤ i → p i ≡ false) → count n p ≡ count k p
 unfolding count
@@ -203,6 +208,43 @@ count-wider zero (suc n) p h none =
 count-wider (suc k) zero p h none = absurd (not-suc-le-zero h)
 count-wider (suc k) (suc n) p h none =
     ap (λ (r : ℕ). digit (p 0) + r) (count-wider k n (λ (i : ℕ). p (suc i)) (le-of-suc-le-suc h) (λ i l. none (suc i) (suc-le-suc l)))
+
+-- tests that differ at one place alone
+pub count-one : (n : ℕ) (p q : Bits) (w : ℕ) → w < n → ((i : ℕ) → i < n → (w ≡ i → ⊥) → p i ≡ q i) → count n p + digit (q w) ≡ count n q + digit (p w)
+unfolding count
+count-one zero p q w h e = absurd (omega arith)
+count-one (suc n) p q zero h e =
+    let rest : count n (λ (i : ℕ). p (suc i)) ≡ count n (λ (i : ℕ). q (suc i)) = count-ext n (λ i k. e (suc i) (omega arith) (λ z. omega arith)) in
+    omega arith
+count-one (suc n) p q (suc w) h e =
+    let first : digit (p 0) ≡ digit (q 0) = ap digit (e 0 (omega arith) (λ z. omega arith)) in
+    omega (
+      arith,
+      count-one n (λ (i : ℕ). p (suc i)) (λ (i : ℕ). q (suc i)) w (omega arith) (λ i k z. e (suc i) (omega arith) (λ y. z (omega arith))),
+    )
+
+-- a test in two parts
+pub count-sum : (n : ℕ) (p q r : Bits) → ((i : ℕ) → i < n → digit (p i) + digit (q i) ≡ digit (r i)) → count n p + count n q ≡ count n r
+unfolding count
+count-sum zero p q r e = refl
+count-sum (suc n) p q r e =
+    omega (
+      arith,
+      e 0 (omega arith),
+      count-sum n (λ (i : ℕ). p (suc i)) (λ (i : ℕ). q (suc i)) (λ (i : ℕ). r (suc i)) (λ i h. e (suc i) (omega arith)),
+    )
+
+-- a test that is passed wherever another is
+pub count-mono : (n : ℕ) (p q : Bits) → ((i : ℕ) → i < n → p i ≡ true → q i ≡ true) → count n p ≤ count n q
+unfolding count
+count-mono zero p q e = omega arith
+count-mono (suc n) p q e =
+    let first : digit (p 0) ≤ digit (q 0) = digit-mono (p 0) (q 0) (e 0 (omega arith)) in
+    omega (arith, count-mono n (λ (i : ℕ). p (suc i)) (λ (i : ℕ). q (suc i)) (λ i h. e (suc i) (omega arith)))
+  where
+    digit-mono : (a b : Bool) → (a ≡ true → b ≡ true) → digit a ≤ digit b
+    digit-mono true b f = rw (f refl) (omega arith)
+    digit-mono false b f = omega arith
 
 -- ---- of a map
 

@@ -1,10 +1,11 @@
 -- `cache::step` meets its contract.
+use Prim.Native.Nat.{ℕ}
 use native.Mathlib.Omega.{arith}
 use Rattle.domains.specs.Domains.{domainOf, policies}
 use Rattle.geometry.proofs.GeometryLaws.{sizes-passed}
 use Rattle.verdict.proofs.RefusalLaws.{by-sizes, by-domain}
 use Rattle.steps.specs.Tables.{Tables, lengths}
-use Rattle.steps.specs.Step.{tablesOf}
+use Rattle.steps.specs.Step.{dropsOf, tablesOf}
 use Rattle.steps.specs.Inside.{Shaped}
 use Rattle.steps.proofs.SetLaws.{shaped}
 use Rattle.cache.proofs.StepLaws.{step-refused, step-line, step-policy, step-unknown}
@@ -26,6 +27,10 @@ is-shaped c =
 sizes-requires : tie.Need-sizes-requires
 sizes-requires c κs = search needs
 
+-- the drops that number 7 would look at
+abbrev drops : tie.Start → ℕ
+drops c = dropsOf (c .args .g) (c .args .domain) (c .args .argument) (record { tables = lent c; domains = c .args .t6 })
+
 refused-requires : tie.Need-refused-requires
 refused-requires c κs = search needs
 
@@ -34,7 +39,7 @@ returns c =
     let entry = c .before .before .before .before .before .before .before in
     step-refused (entry .args .g) (entry .args .domain) (entry .args .kind) (entry .args .argument) (lent entry) (entry .args .t6)
     (by-sizes (entry .args .g) (lengths (lent entry)) (policies (entry .args .g .ways) (entry .args .t6))
-    (domainOf (entry .args .t6) (entry .args .domain) .counts)
+    (domainOf (entry .args .t6) (entry .args .domain) .counts) (drops entry)
     (entry .args .domain) (entry .args .kind) (entry .args .argument) (c .before .before .sizes .ensures) (c .before .if1 .taken))
     (c .before .if1 .taken) (c .refused .ensures)
 
@@ -46,7 +51,7 @@ returns-2 c =
     let entry = c .before .before .before .before .before .before .before .before in
     step-refused (entry .args .g) (entry .args .domain) (entry .args .kind) (entry .args .argument) (lent entry) (entry .args .t6)
     (by-domain (entry .args .g) (lengths (lent entry)) (policies (entry .args .g .ways) (entry .args .t6))
-    (domainOf (entry .args .t6) (entry .args .domain) .counts)
+    (domainOf (entry .args .t6) (entry .args .domain) .counts) (drops entry)
     (entry .args .domain) (entry .args .kind) (entry .args .argument) (c .before .before .before .sizes .ensures) (c .before .before .if1 .left)
     (c .before .if2 .taken))
     (λ e. omega arith) (c .refused2 .ensures)

@@ -10,69 +10,66 @@ enum-known-answer : tie.Need-enum-known-answer
 enum-known-answer c = search needs
 
 add-next : tie.Need-add-next
-add-next c = omega (arith, c .struct-known .given .0, unspent (c .before .before .before .before .args .c) (c .before .before .before .before .pre) .hits)
+add-next c =
+    let entry = c .before .before .before .before in
+    omega (arith, c .struct-known .given .0, unspent (entry .args .c) (entry .pre) .hits)
 
 enum-known-answer-2 : tie.Need-enum-known-answer-2
 enum-known-answer-2 c = search needs
 
 add-next-2 : tie.Need-add-next-2
 add-next-2 c =
-    omega (
-      arith,
-      c .struct-known2 .given .1 .0,
-      unspent (c .before .before .before .before .args .c) (c .before .before .before .before .pre) .misses,
-    )
+    let entry = c .before .before .before .before in
+    omega (arith, c .struct-known2 .given .1 .0, unspent (entry .args .c) (entry .pre) .misses)
+
+add-next-3 : tie.Need-add-next-3
+add-next-3 c =
+    let entry = c .before .before .before .before .before in
+    omega (arith, c .struct-known3 .given .1 .1 .1 .1 .1 .0, unspent (entry .args .c) (entry .pre) .fills)
 
 enum-told : tie.Need-enum-told
 enum-told c = search needs
 
-add-next-3 : tie.Need-add-next-3
-add-next-3 c = omega (arith, c .struct-known3 .given .1 .0, unspent (c .before .before .before .args .c) (c .before .before .before .pre) .misses)
+add-next-4 : tie.Need-add-next-4
+add-next-4 c =
+    let entry = c .before .before .before in
+    omega (arith, c .struct-known4 .given .1 .0, unspent (entry .args .c) (entry .pre) .misses)
 
 enum-known-answer-3 : tie.Need-enum-known-answer-3
 enum-known-answer-3 c = search needs
 
-add-next-4 : tie.Need-add-next-4
-add-next-4 c =
-    omega (
-      arith,
-      c .struct-known4 .given .1 .0,
-      unspent (c .before .before .before .before .args .c) (c .before .before .before .before .pre) .misses,
-    )
-
 add-next-5 : tie.Need-add-next-5
-add-next-5 c = omega (
-  arith,
-  c .struct-known5 .given .1 .1 .0,
-  unspent (c .before .before .before .before .before .args .c)
-      (c .before .before .before .before .before .pre) .evicted,
-)
+add-next-5 c =
+    let entry = c .before .before .before .before in
+    omega (arith, c .struct-known5 .given .1 .0, unspent (entry .args .c) (entry .pre) .misses)
+
+add-next-6 : tie.Need-add-next-6
+add-next-6 c =
+    let entry = c .before .before .before .before .before in
+    omega (arith, c .struct-known6 .given .1 .1 .0, unspent (entry .args .c) (entry .pre) .evicted)
 
 with-dirty-requires : tie.Need-with-dirty-requires
-with-dirty-requires c κs = omega (
-  arith,
-  c .struct-known5 .given .1 .1 .1 .0,
-  unspent (c .before .before .before .before .before .args .c) (c .before .before .before .before .before .pre) .written,
-)
+with-dirty-requires c κs =
+    let entry = c .before .before .before .before .before in
+    omega (arith, c .struct-known6 .given .1 .1 .1 .0, unspent (entry .args .c) (entry .pre) .written)
+
+add-fills : tie.Need-add-fills
+add-fills c =
+    let entry = c .before .before .before .before .before .before .before in
+    omega (arith, c .struct-known7 .given .1 .1 .1 .1 .1 .0, unspent (entry .args .c) (entry .pre) .fills)
 
 enum-known-answer-4 : tie.Need-enum-known-answer-4
 enum-known-answer-4 c = search needs
 
 with-dirty-requires-2 : tie.Need-with-dirty-requires-2
 with-dirty-requires-2 c κs =
-    omega (
-      arith,
-      c .before .before .before .good,
-      unspent (c .before .before .before .args .c) (c .before .before .before .pre) .written,
-    )
+    let entry = c .before .before .before in
+    omega (arith, entry .good, unspent (entry .args .c) (entry .pre) .written)
 
-add-next-6 : tie.Need-add-next-6
-add-next-6 c = omega (
-  arith,
-  c .struct-known6 .given .1 .1 .1 .1 .0,
-  unspent (c .before .before .before .before .before .args .c)
-      (c .before .before .before .before .before .pre) .flushed,
-)
+add-next-7 : tie.Need-add-next-7
+add-next-7 c =
+    let entry = c .before .before .before .before .before in
+    omega (arith, c .struct-known8 .given .1 .1 .1 .1 .0, unspent (entry .args .c) (entry .pre) .flushed)
 
 returns : tie.Need-returns
 unfolding counted
@@ -80,7 +77,7 @@ returns c = rw (c .before .before .answer .given .1)
 
 returns-2 : tie.Need-returns-2
 unfolding counted
-returns-2 c = rw (c .before .before .answer2 .given .1)
+returns-2 c = rw (c .before .before .before .answer2 .given .1)
 
 returns-3 : tie.Need-returns-3
 unfolding counted
@@ -88,7 +85,7 @@ returns-3 c = rw (is-pass (c .before .before .before .args .answer) (c .before .
 
 returns-4 : tie.Need-returns-4
 unfolding counted
-returns-4 c = rw (c .before .before .before .before .answer3 .given .1, c .with-dirty .ensures)
+returns-4 c = rw (c .before .before .before .before .before .answer3 .given .1, c .before .with-dirty .ensures)
 
 returns-5 : tie.Need-returns-5
 unfolding counted
@@ -105,15 +102,17 @@ counted-spec =
     add-next
     enum-known-answer-2
     add-next-2
-    enum-told
     add-next-3
-    enum-known-answer-3
+    enum-told
     add-next-4
+    enum-known-answer-3
     add-next-5
+    add-next-6
     with-dirty-requires
+    add-fills
     enum-known-answer-4
     with-dirty-requires-2
-    add-next-6
+    add-next-7
     returns
     returns-2
     returns-3

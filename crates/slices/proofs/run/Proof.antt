@@ -14,17 +14,8 @@ Inv-loop g file n tags₀ valid₀ dirty₀ words₀ shown₀ i₀ tags valid di
 abbrev μ-loop : tie.MeasureT-loop
 μ-loop g file n tags₀ valid₀ dirty₀ words₀ shown₀ i₀ tags valid dirty words shown i = n - i
 
-abbrev made : tie.After-fresh-domains Inv-loop μ-loop → tie.After-fresh-tables Inv-loop μ-loop
-made c = c .before .before .before .before .before .before .before .before .before
-
 abbrev entry : tie.In-loop Inv-loop μ-loop → tie.Start Inv-loop μ-loop
-entry c = made (c .before .before) .before .before .before .before .before .before .before .before .before .before
-
-fresh-tables-requires : tie.Need-fresh-tables-requires Inv-loop μ-loop
-fresh-tables-requires c κs = tt
-
-fresh-domains-requires : tie.Need-fresh-domains-requires Inv-loop μ-loop
-fresh-domains-requires c κs = tt
+entry c = c .before .before .before .before .before .before .before
 
 loop-holds : tie.Need-loop-holds Inv-loop μ-loop
 loop-holds c = (refl, (refl, (refl, refl)))
@@ -50,16 +41,16 @@ loop-again c =
     (left .0 ∙ kept .0, (left .1 .0 ∙ kept .1 .0, (left .1 .1 .0 ∙ kept .1 .1 .0, left .1 .1 .1 .0 ∙ kept .1 .1 .1)))
 
 same-length : tie.Need-same-length Inv-loop μ-loop
-same-length c = c .before .loop .inv .0 ∙ made (c .before .before) .fresh-tables .kept .1 .0
+same-length c = c .before .loop .inv .0
 
 same-length-2 : tie.Need-same-length-2 Inv-loop μ-loop
-same-length-2 c = c .before .loop .inv .1 .0 ∙ made (c .before .before) .fresh-tables .kept .1 .1 .0
+same-length-2 c = c .before .loop .inv .1 .0
 
 same-length-3 : tie.Need-same-length-3 Inv-loop μ-loop
-same-length-3 c = c .before .loop .inv .1 .1 .0 ∙ made (c .before .before) .fresh-tables .kept .1 .1 .1 .0
+same-length-3 c = c .before .loop .inv .1 .1 .0
 
 same-length-4 : tie.Need-same-length-4 Inv-loop μ-loop
-same-length-4 c = c .before .loop .inv .1 .1 .1 ∙ made (c .before .before) .fresh-tables .kept .1 .1 .1 .1 .0
+same-length-4 c = c .before .loop .inv .1 .1 .1
 
 returns : tie.Need-returns Inv-loop μ-loop
 returns c = tt
@@ -70,8 +61,6 @@ run-spec =
     (tie.spec
     Inv-loop
     μ-loop
-    fresh-tables-requires
-    fresh-domains-requires
     loop-holds
     take-requires
     add-i

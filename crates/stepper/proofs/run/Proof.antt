@@ -4,7 +4,7 @@ use Prim.Native.Nat.{_+_, _-_}
 use native.Mathlib.Nat.{le-trans, le-of-eq}
 use borrow.Author.Needs.{needs}
 use Rattle.stepper.specs.Rows.{Kept}
-use Rattle.stepper.proofs.RowLaws.{rows-kept, block-less}
+use Rattle.stepper.proofs.RowLaws.{held-room, rows-kept, block-less}
 use Rattle.stepper.proofs.run.Statement.{statement}
 use Rattle.stepper.proofs.run.Tie as tie
 
@@ -65,32 +65,44 @@ loop-again c =
       out-same = left .1 .1 .1 .1 .1 .0 ∙ kept .out-same;
     }
 
+show-held-requires : tie.Need-show-held-requires Inv-loop μ-loop
+show-held-requires c κs =
+    let turned = c .before .before .before in
+    let begun = turned .before .before .before .before .before .before .before .before .before .before .before in
+    let entry = begun .before .before .before .before .before .before .before .before .before .before .before in
+    held-room (turned .loop .inv .out-same) (entry .pre .1 .1)
+
+both-requires : tie.Need-both-requires Inv-loop μ-loop
+both-requires c κs = tt
+
 same-length : tie.Need-same-length Inv-loop μ-loop
 same-length c =
-    let turned = c .before in
+    let turned = c .before .before .before .before .before .before .before in
     let made = turned .before .before .before .before .before .before .before .before .before .before .before .fresh-tables in
     turned .loop .inv .tags-same ∙ made .kept .1 .0
 
 same-length-2 : tie.Need-same-length-2 Inv-loop μ-loop
 same-length-2 c =
-    let turned = c .before in
+    let turned = c .before .before .before .before .before .before .before in
     let made = turned .before .before .before .before .before .before .before .before .before .before .before .fresh-tables in
     turned .loop .inv .valid-same ∙ made .kept .1 .1 .0
 
 same-length-3 : tie.Need-same-length-3 Inv-loop μ-loop
 same-length-3 c =
-    let turned = c .before in
+    let turned = c .before .before .before .before .before .before .before in
     let made = turned .before .before .before .before .before .before .before .before .before .before .before .fresh-tables in
     turned .loop .inv .dirty-same ∙ made .kept .1 .1 .1 .0
 
 same-length-4 : tie.Need-same-length-4 Inv-loop μ-loop
 same-length-4 c =
-    let turned = c .before in
+    let turned = c .before .before .before .before .before .before .before in
     let made = turned .before .before .before .before .before .before .before .before .before .before .before .fresh-tables in
     turned .loop .inv .words-same ∙ made .kept .1 .1 .1 .1 .0
 
 same-length-5 : tie.Need-same-length-5 Inv-loop μ-loop
-same-length-5 c = c .before .loop .inv .out-same
+same-length-5 c =
+    let turned = c .before .before .before .before .before .before .before in
+    c .before .before .before .show-held .kept .1 .1 .1 .0 ∙ turned .loop .inv .out-same
 
 returns : tie.Need-returns Inv-loop μ-loop
 returns c = tt
@@ -111,6 +123,8 @@ run-spec =
     add-i
     loop-less
     loop-again
+    show-held-requires
+    both-requires
     same-length
     same-length-2
     same-length-3

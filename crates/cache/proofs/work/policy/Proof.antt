@@ -1,7 +1,7 @@
 -- `cache::work::policy` meets its contract.
 use Rattle.steps.specs.Tables.{Tables}
 use Rattle.steps.specs.Step.{tablesOf}
-use Rattle.cache.proofs.DeedLaws.{policy-down, policy-done}
+use Rattle.cache.proofs.DeedLaws.{policy-down, policy-room, policy-done}
 use borrow.Author.Needs.{needs}
 use Rattle.cache.proofs.work.policy.Statement.{statement}
 use Rattle.cache.proofs.work.policy.Tie as tie
@@ -10,17 +10,24 @@ use Rattle.cache.proofs.work.policy.Tie as tie
 abbrev lent : tie.Start → Tables
 lent c = tablesOf (c .args .tags .now) (c .args .valid .now) (c .args .dirty .now) (c .args .words .now)
 
+drops-requires : tie.Need-drops-requires
+drops-requires c κs = search needs
+
 policy-refusal-requires : tie.Need-policy-refusal-requires
 policy-refusal-requires c κs = search needs
 
 turned-down-requires : tie.Need-turned-down-requires
 turned-down-requires c κs = search needs
 
+same-length : tie.Need-same-length
+same-length c = search needs
+
 returns : tie.Need-returns
 returns c =
-    let entry = c .before .before .before .before .before .before .before in
+    let asked = c .before .before in
+    let entry = asked .before .before .before .before .before .before .before in
     policy-down (entry .args .g) (entry .args .own) (entry .args .policies) (entry .args .domain) (entry .args .argument) (lent entry)
-    (c .before .before .policy-refusal .ensures)
+    (asked .before .drops .result) (entry .pre) (asked .before .drops .ensures) (asked .policy-refusal .ensures)
     (c .before .if1 .taken) (c .turned-down .ensures)
 
 new-maps-requires : tie.Need-new-maps-requires
@@ -33,10 +40,16 @@ sweep-sets-requires : tie.Need-sweep-sets-requires
 sweep-sets-requires c κs = search needs
 
 after-change-requires : tie.Need-after-change-requires
-after-change-requires c κs = search needs
-
-same-length : tie.Need-same-length
-same-length c = search needs
+after-change-requires c κs =
+    let swept = c .before .before .before .before .before .before .before .before in
+    let worked = swept .before .before .before .before .before in
+    let asked = worked .before .before .before in
+    let entry = asked .before .before .before .before .before .before .before in
+    let last = swept .sweep-sets .last .1 in
+    policy-room (entry .args .g) (entry .args .own) (entry .args .policies) (entry .args .domain) (entry .args .argument) (lent entry)
+    (asked .before .drops .result) (entry .pre) (asked .before .drops .ensures) (asked .policy-refusal .ensures)
+    {v = tablesOf (last .0) (last .1 .0) (last .1 .1 .0) (last .1 .1 .1 .0)}
+    (worked .before .before .if1 .left) (worked .before .new-maps .ensures) (worked .sweep-of .ensures) (swept .sweep-sets .ensures)
 
 same-length-2 : tie.Need-same-length-2
 same-length-2 c = search needs
@@ -47,31 +60,37 @@ same-length-3 c = search needs
 same-length-4 : tie.Need-same-length-4
 same-length-4 c = search needs
 
+same-length-5 : tie.Need-same-length-5
+same-length-5 c = search needs
+
 returns-2 : tie.Need-returns-2
 returns-2 c =
     let swept = c .before .before .before .before .before .before .before .before .before in
     let worked = swept .before .before .before .before .before in
     let asked = worked .before .before .before in
-    let entry = asked .before .before .before .before .before in
+    let entry = asked .before .before .before .before .before .before .before in
     let last = swept .sweep-sets .last .1 in
     policy-done (entry .args .g) (entry .args .own) (entry .args .policies) (entry .args .domain) (entry .args .argument) (lent entry)
-    (asked .policy-refusal .ensures) {v = tablesOf (last .0) (last .1 .0) (last .1 .1 .0) (last .1 .1 .1 .0)}
-    (entry .pre) (worked .before .before .if1 .left) (worked .before .new-maps .ensures) (worked .sweep-of .ensures)
-    (swept .sweep-sets .ensures) (c .after-change .ensures)
+    (asked .before .drops .result) (entry .pre) (asked .before .drops .ensures) (asked .policy-refusal .ensures)
+    {v = tablesOf (last .0) (last .1 .0) (last .1 .1 .0) (last .1 .1 .1 .0)}
+    (worked .before .before .if1 .left) (worked .before .new-maps .ensures) (worked .sweep-of .ensures) (swept .sweep-sets .ensures)
+    (c .after-change .ensures)
 
 pub policy-spec : {M : Type 1} → statement M
 policy-spec =
     tie.close
     (tie.spec
+    drops-requires
     policy-refusal-requires
     turned-down-requires
+    same-length
     returns
     new-maps-requires
     sweep-of-requires
     sweep-sets-requires
     after-change-requires
-    same-length
     same-length-2
     same-length-3
     same-length-4
+    same-length-5
     returns-2)

@@ -19,6 +19,12 @@ cast-t11 c = search needs
 cast-t12 : tie.Need-cast-t12
 cast-t12 c = search needs
 
+cast-t13 : tie.Need-cast-t13
+cast-t13 c = search needs
+
+cast-t14 : tie.Need-cast-t14
+cast-t14 c = search needs
+
 slice-aggregate-told : tie.Need-slice-aggregate-told
 slice-aggregate-told c = search needs
 
@@ -44,6 +50,8 @@ domain-spec =
     cast-t10
     cast-t11
     cast-t12
+    cast-t13
+    cast-t14
     slice-aggregate-told
     slice-aggregate-told-2
     told-requires

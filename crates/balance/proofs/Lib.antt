@@ -1,0 +1,4 @@
+-- Lines in and lines out, shown.
+pub mod TallyLaws
+pub mod Balance
+pub mod Witness

@@ -1,0 +1,3 @@
+-- Lines in and lines out: document 02, job 6.
+pub mod Tally
+pub mod Balance
