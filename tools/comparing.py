@@ -22,6 +22,7 @@ SELECTORS = ["CS", "DS", "ES"]
 USED = {THROUGH: 0, THROUGH + 1: 1, THROUGH + 2: 2, THROUGH + 3: 1}  # which of them a kind through a core uses
 FIRST_LINE = re.compile(rb"(?:refused (\d+)|(\d+) (\d+) (\d+) \d+)\n")
 STEP_LINE = re.compile(rb"^\d+ (?:refused (\d+)|([a-z]+)(.*))$", re.MULTILINE)
+DOMAIN_LINE = re.compile(rb"^domain .* (\d+)$", re.MULTILINE)  # with the last of its counts, the lines dropped
 PAUSE = 0.005  # seconds, a few times what a program needs to start and to read what is there
 
 
@@ -116,11 +117,14 @@ class Census:
         self.answers = collections.Counter()
         self.details = collections.Counter()
         self.through = collections.Counter()
+        self.dropped = 0
+        self.dirty_dropped = 0
         self.most_dropped = 0
         self.refused_steps = collections.Counter()
         self.refused_files = collections.Counter()
         self.geometries = collections.Counter()
         self.domain_lines = 0
+        self.with_drops = 0
 
     def take(self, data, listing):
         first = FIRST_LINE.match(listing)
@@ -130,7 +134,9 @@ class Census:
             self.refused_files[int(first[1])] += 1
             return
         self.geometries[int(first[2]), int(first[3]), int(first[4])] += 1
-        self.domain_lines += listing.count(b"\ndomain ")
+        last_counts = DOMAIN_LINE.findall(listing)
+        self.domain_lines += len(last_counts)
+        self.with_drops += len(last_counts) - last_counts.count(b"0")
         answers = STEP_LINE.findall(listing)
         self.take_domains(data, answers)
         for number, word, fields in answers:
@@ -142,7 +148,13 @@ class Census:
             if word in self.FIELDS and self.FIELDS[word].fullmatch(fields):
                 self.details[word] += 1
             if word == "policy":
-                self.most_dropped = max(self.most_dropped, int(fields.split()[0]))
+                self.take_drops(*map(int, fields.split()))
+
+    def take_drops(self, dropped, dirty_dropped):
+        """What an accepted policy change dropped."""
+        self.dropped += dropped
+        self.dirty_dropped += dirty_dropped
+        self.most_dropped = max(self.most_dropped, dropped)
 
     def take_domains(self, data, answers):
         """What is to be seen only with the domain of each step: hits in ways outside its fill map, and the steps that
@@ -163,6 +175,7 @@ class Census:
             detail = f"  of them {self.details[word]:,} {self.DETAILS[word]}" if word in self.DETAILS else ""
             detail += f", at most {self.most_dropped:,}" if word == "policy" else ""
             print_count(word, self.answers[word], detail)
+        print_count("dropped", self.dropped, f"  lines, by policy changes, of them {self.dirty_dropped:,} dirty")
         if "select" in self.WORDS:
             uses = ", ".join(f"{self.through[name]:,} by {name}" for name in SELECTORS)
             print_count("by cores", self.through.total(), f"  of these answers, through selectors: {uses}")
@@ -170,11 +183,15 @@ class Census:
             print_count(f"refused {number}", self.refused_steps[number], f"  {about}")
         for number, about in self.FILE_NUMBERS.items():
             print_count(f"refused {number}", self.refused_files[number], f"  {about}: the whole file")
-        print_count("domain", self.domain_lines, "  lines of counts")
+        self.print_more()
+        print_count("domain", self.domain_lines, f"  lines of counts, of them {self.with_drops:,} with drops")
         rarest = min(self.geometries[geometry] for geometry in self.GEOMETRIES)
         seen = sum(1 for geometry in self.GEOMETRIES if self.geometries[geometry])
         print_count("geometries", seen, f"  of {len(self.GEOMETRIES)}, the rarest in {rarest:,} traces")
         print(f"  (no file can bring about {self.NEVER})")
+
+    def print_more(self):
+        """What the census of another subject has beside this."""
 
 
 def accepted_steps(data, answers):

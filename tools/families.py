@@ -8,6 +8,7 @@ import random
 from dataclasses import dataclass
 from typing import Callable
 
+import dropped
 from cores import add_edge, add_turn, begin
 from locked import add_round
 from traces import (FETCH, FLUSH, GEOMETRIES, HEADER, LARGEST_FILE, LOAD, MOST_STEPS, POLICY, RULES, SETS, STORE, WAYS,
@@ -85,6 +86,17 @@ def selectors(rng, _index):
         for _ in range(rng.randint(5, 15)):
             add_edge(trace, team)
     return trace.file()
+
+
+def with_drops(sets=SETS):
+    """The maker of traces with lines that policy changes drop, at one of these numbers of sets."""
+    def maker(rng, _index):
+        trace = Trace(rng, some_geometry(rng, sets=sets))
+        for _ in range(rng.randint(1, 5)):
+            dropped.add_round(trace)
+        dropped.add_end(trace)
+        return trace.file()
+    return maker
 
 
 def each_geometry(rng, index):
@@ -233,6 +245,8 @@ FAMILIES = [
     Family("locks", "fill maps change under the same hit map: locked ways, `pass`", 10,
            of_mix(Mix(policy=10, relock=30, shut=4, crowd=(0.5, 2), used_sets=2, rules=(0, 0, 1, 2)))),
     Family("locked", "hits in locked ways, and evictions beside them, mostly under Tree-PLRU", 14, with_locks()),
+    Family("drops", "ways full of lines are handed to and fro, given up and taken back, or wanted in vain (8, 9)", 12,
+           with_drops()),
     Family("cores", "cores are switched between domains; accesses and flushes through their selectors", 14,
            with_cores()),
     Family("selectors", "cores, selectors and bytes of selector writes at their limits (11, 3, 5)", 7, selectors),
@@ -265,3 +279,8 @@ FAMILIES = [
     Family("noise", "plain random bytes", 2, noise),
     Family("oversize", "longer than the largest file that stands", 1, oversize),
 ]
+
+
+def listed(rng, index):
+    """A file of any of these families."""
+    return rng.choices(FAMILIES, [family.weight for family in FAMILIES])[0].maker(rng, index)

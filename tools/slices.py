@@ -8,11 +8,10 @@ traces.
 """
 
 import comparing
-import families
 from comparing import Subject, about_steps
-from families import (Family, bad_geometry, both, each_length, extended, flipped_body, flipped_header, near_length,
-                      noise, of_mix, oversize, some_geometry, too_many_steps, truncated, wild, with_cores, with_locks,
-                      wrong_number)
+from families import (Family, bad_geometry, both, each_length, extended, flipped_body, flipped_header, listed,
+                      near_length, noise, of_mix, oversize, some_geometry, too_many_steps, truncated, wild, with_cores,
+                      with_drops, with_locks, wrong_number)
 from traces import (GEOMETRIES, LOAD, MOST_STEPS, RULES, STORE, WAYS, Mix, Trace, change_grant, change_move,
                     change_relock, change_remove, grow, whole_file)
 
@@ -96,12 +95,6 @@ def case_j(_rng, index):
     return whole_file((sets, 8, 0), [both(0, 255), (0, STORE, 64 * max(0, sets - 1)), (0, LOAD, 0), both(0, 0)])
 
 
-def listed(rng, index):
-    """A file of any of the families that listings are compared on."""
-    weights = [family.weight for family in families.FAMILIES]
-    return rng.choices(families.FAMILIES, weights)[0].maker(rng, index)
-
-
 def sixteenfold(*makers):
     """The maker of files by any of these makers, with sixteen times the sets in the header."""
     def maker(rng, index):
@@ -129,6 +122,7 @@ FAMILIES = [
     Family("addresses", "lines from the whole 64 bits, tags of many digits", 3, larger(Mix(wide=0.9))),
     Family("swept", "ways change hands between accesses in many sets", 6, swept),
     Family("drops", "changes that drop lines by the hundred and the thousand", 6, drops),
+    Family("handed", "ways full of lines are handed to and fro, given up and taken back", 3, with_drops(LARGER)),
     Family("geometries", "each of the 156 geometries in turn, first the 48 of more than 256 sets", 14, each_geometry),
     Family("long", "4,096 steps", 2, long),
     Family("pieces", "given in pieces, with pauses, as a slow writer would", 1, larger(Mix()), True),

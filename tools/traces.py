@@ -129,12 +129,15 @@ class Trace:
         return not self.shares_way(domain, hit_map) and not self.shares_node(domain, fill_map)
 
     def set_policy(self, domain, hit_map, fill_map, high=0):
+        """A policy change, and whether it is acceptable."""
         self.add(domain, POLICY, hit_map | fill_map << 16 | high << 32)
         argument_stands = not high and not fill_map & ~hit_map and not hit_map >> self.ways
-        if argument_stands and self.stands(domain, hit_map, fill_map):
+        accepted = argument_stands and self.stands(domain, hit_map, fill_map)
+        if accepted:
             self.policies[domain] = (hit_map, fill_map)
             if not hit_map:
                 del self.policies[domain]
+        return accepted
 
     def select(self, core, selectors, high=0):
         """A selector write."""
@@ -203,6 +206,40 @@ def change_move(trace):
     trace.set_policy(taker, hit_map | ways, fill_map | ways)
 
 
+def change_shrink(trace):
+    """A domain gives up some of its ways; one at least it keeps, if it has one."""
+    domain = trace.member()
+    hit_map, fill_map = trace.maps(domain)
+    kept = submap(trace.rng, hit_map) or hit_map & -hit_map
+    trace.set_policy(domain, kept, fill_map & kept)
+
+
+def change_grow(trace):
+    """A domain takes ways that nobody has, and keeps its own."""
+    rng, domain = trace.rng, trace.anyone()
+    hit_map, fill_map = trace.maps(domain)
+    more = submap(rng, trace.unowned(domain) & ~hit_map)
+    trace.set_policy(domain, hit_map | more, fill_map | (more if rng.random() < 0.6 else submap(rng, more)))
+
+
+def change_replace(trace):
+    """A domain gives up some of its ways and takes others that nobody has: the first acceptable choice of a few."""
+    rng, domain = trace.rng, trace.anyone()
+    unowned = trace.unowned(domain)
+    for _ in range(8):
+        hit_map = submap(rng, unowned)
+        fill_map = hit_map if rng.random() < 0.6 else submap(rng, hit_map)
+        if hit_map and hit_map != trace.maps(domain)[0] and trace.stands(domain, hit_map, fill_map):
+            break
+    trace.set_policy(domain, hit_map, fill_map)
+
+
+def change_again(trace):
+    """A domain gets the maps that it has."""
+    domain = trace.member()
+    trace.set_policy(domain, *trace.maps(domain))
+
+
 def change_remove(trace):
     """A domain is removed and, half of the time, put back at once with the same maps."""
     domain = trace.member()
@@ -241,6 +278,15 @@ def change_overlap(trace):
     domain, other = trace.anyone(), trace.member()
     hit_map = trace.maps(domain)[0] | submap(trace.rng, trace.maps(other)[0])
     trace.set_policy(domain, hit_map, submap(trace.rng, hit_map))
+
+
+def change_grab(trace):
+    """A domain gives up some of its ways, and wants at least one of another domain: refused 8."""
+    rng, other = trace.rng, trace.member()
+    domain = rng.choice([member for member in trace.policies if member != other] or trace.cast)
+    wanted = submap(rng, trace.maps(other)[0]) or trace.maps(other)[0]
+    hit_map = submap(rng, trace.maps(domain)[0]) | wanted
+    trace.set_policy(domain, hit_map, submap(rng, hit_map))
 
 
 def change_share(trace):

@@ -34,6 +34,11 @@ impl Cache {
         }
     }
 
+    /// Lent domains, and lent valid and dirty maps, one of each for every set. All tags and replacement words are zero.
+    pub fn lent(geometry: Geometry, valid: Vec<Map>, dirty: Vec<Map>, domains: Domains) -> Cache {
+        Cache { valid, dirty, replacement: vec![0; geometry.sets], domains, ..Cache::fresh(geometry) }
+    }
+
     pub fn domains(&self) -> &Domains {
         &self.domains
     }
@@ -50,7 +55,7 @@ impl Cache {
 
     /// Does one step, and gives beside its answer how many ways its lookup visited: 0 if it made none.
     pub fn step_and_visits(&mut self, step: &Step) -> (Answer, usize) {
-        match judge(&self.geometry, &self.domains, step) {
+        match judge(&self.geometry, &self.domains, &self.valid, step) {
             Err(refusal) => (Answer::Refused(refusal), 0),
             Ok((domain, Kind::Policy)) => (self.change_policy(domain, Policy::from_argument(step.argument)), 0),
             Ok((domain, Kind::Flush)) => self.flush(domain, step.argument),
@@ -97,7 +102,8 @@ impl Cache {
     }
 
     /// "Else the lowest invalid way of the fill map is filled; if none, the victim is evicted and its tag and
-    /// dirtiness answered. The filled way is valid, dirty only for a store, and touched."
+    /// dirtiness answered. The filled way is valid, dirty only for a store, and touched." Both are fills in the count
+    /// that document 02 adds: each brings a line in.
     fn fill(&mut self, domain: usize, set: usize, tag: u64, store: bool) -> Answer {
         let fill_map = self.domains.policy(domain).fill_map;
         let (way, answer) = match lowest(fill_map & !self.valid[set]) {
@@ -111,6 +117,7 @@ impl Cache {
             self.dirty[set] |= only(way);
         }
         self.touch(set, fill_map, way);
+        self.domains.counts_mut(domain).fills += 1;
         answer
     }
 
@@ -151,8 +158,8 @@ impl Cache {
 
     /// "Both maps are stored. Ways in exactly one of the old and new hit maps are cleaned in every set." What the
     /// replacement words hold changes hands, in every set, by the fill maps. "The answer is the number of valid lines
-    /// dropped and how many of them were dirty; counts do not move. Two zero maps remove the domain and zero its
-    /// counts."
+    /// dropped and how many of them were dirty". By document 02 these lines, dirty or not, are added to dropped; no
+    /// other count moves. "Two zero maps remove the domain and zero its counts", dropped too.
     #[inline(never)] // so that the loops over the sets have the registers to themselves
     fn change_policy(&mut self, domain: usize, new: Policy) -> Answer {
         let old = self.domains.policy(domain);
@@ -169,8 +176,11 @@ impl Cache {
             *word = hand_over.of(*word);
         }
         self.domains.store(domain, new);
+        let counts = self.domains.counts_mut(domain);
         if new == Policy::default() {
-            *self.domains.counts_mut(domain) = Counts::default();
+            *counts = Counts::default();
+        } else {
+            counts.dropped += dropped;
         }
         Answer::Policy { dropped, dirty_dropped }
     }

@@ -52,8 +52,8 @@ const CASE_A: &str = "\
 6 flush 1 0
 7 refused 6
 8 hit 0
-domain 0 1 3 1 1 1
-domain 1 0 1 0 0 0
+domain 0 1 3 1 1 1 3 0
+domain 1 0 1 0 0 0 1 0
 ";
 
 fn steps_of_case_a() -> [Code; 9] {
@@ -74,6 +74,42 @@ fn steps_of_case_a() -> [Code; 9] {
 fn case_a_the_listing() {
     assert_eq!(list(1, 4, 0, &steps_of_case_a()), CASE_A);
     assert_eq!(call(1, 4, 0, &steps_of_case_a()), CASE_A);
+}
+
+/// By document 02, fills and dropped: domain 0 gives up way 1, with the dirty line in it, and takes it back; then
+/// domain 1 is removed, and starts from zero when it is back.
+#[test]
+fn where_the_lines_went() {
+    let steps = [
+        policy(0, 3),
+        policy(1, 12),
+        (0, STORE, 0),
+        (0, STORE, 64),
+        (1, STORE, 0),
+        policy(0, 1),
+        policy(0, 3),
+        policy(1, 0),
+        policy(1, 8),
+        (1, LOAD, 0),
+        (0, LOAD, 64),
+    ];
+    let due = "\
+1 4 0 11
+0 policy 0 0
+1 policy 0 0
+2 fill 0
+3 fill 1
+4 fill 2
+5 policy 1 1
+6 policy 0 0
+7 policy 1 1
+8 policy 0 0
+9 fill 3
+10 fill 1
+domain 0 0 3 0 0 0 3 1
+domain 1 0 1 0 0 0 1 0
+";
+    assert_eq!(list(1, 4, 0, &steps), due);
 }
 
 /// Four misses in maps of two ways; then a flush of the map's second way, a refused step and a hit in its first way.
@@ -113,7 +149,7 @@ fn case_e_its_victim_with_node_4_set() {
 fn case_f_maps_5_and_10_share_node_1() {
     assert_eq!(tree::free_nodes(8, 5) & tree::free_nodes(8, 10), 1 << 1);
     let listing = list(1, 8, 0, &[policy(0, 5), policy(1, 10)]);
-    assert_eq!(listing, "1 8 0 2\n0 policy 0 0\n1 refused 9\ndomain 0 0 0 0 0 0\n");
+    assert_eq!(listing, "1 8 0 2\n0 policy 0 0\n1 refused 9\ndomain 0 0 0 0 0 0 0 0\n");
     for rule in [1, 2] {
         let without_nodes = list(1, 8, rule, &[policy(0, 5), policy(1, 10)]);
         assert!(without_nodes.contains("\n1 policy 0 0\n"), "rule {rule}");
@@ -142,7 +178,7 @@ fn case_i_nru_map_6_word_0() {
 #[test]
 fn case_j_sets() {
     let by_a_call = |sets| call(sets, 8, 0, &[policy(0, 255)]);
-    assert_eq!(by_a_call(4096), "4096 8 0 1\n0 policy 0 0\ndomain 0 0 0 0 0 0\n");
+    assert_eq!(by_a_call(4096), "4096 8 0 1\n0 policy 0 0\ndomain 0 0 0 0 0 0 0 0\n");
     assert_eq!(by_a_call(257), "257 8 0 1\n0 refused 1\n");
     assert_eq!(by_a_call(8192), "8192 8 0 1\n0 refused 1\n");
     assert_eq!(list(256, 8, 0, &[]), "256 8 0 0\n");
@@ -182,7 +218,7 @@ fn every_other_geometry() {
 #[test]
 fn case_k_domains() {
     let listing = list(1, 2, 0, &[policy(15, 1), policy(16, 2)]);
-    assert_eq!(listing, "1 2 0 2\n0 policy 0 0\n1 refused 3\ndomain 15 0 0 0 0 0\n");
+    assert_eq!(listing, "1 2 0 2\n0 policy 0 0\n1 refused 3\ndomain 15 0 0 0 0 0 0 0\n");
 }
 
 #[test]
@@ -216,7 +252,7 @@ fn sets_above_255_are_told_apart() {
         let load = |line: u16| (0, LOAD, 64 * u64::from(line));
         let steps = [policy(0, 15), load(0), load(256), load(sets), load(256), load(0), load(sets - 1)];
         let fills = "1 fill 0\n2 fill 0\n3 fill 1\n4 hit 0\n5 hit 0\n6 fill 0";
-        let due = format!("{sets} 4 2 7\n0 policy 0 0\n{fills}\ndomain 0 2 4 0 0 0\n");
+        let due = format!("{sets} 4 2 7\n0 policy 0 0\n{fills}\ndomain 0 2 4 0 0 0 4 0\n");
         assert_eq!(call(sets, 4, 2, &steps), due);
     }
     let of_one_set = list(256, 4, 2, &[policy(0, 15), (0, LOAD, 0), (0, LOAD, 64 * 256)]);
@@ -251,7 +287,7 @@ fn under_lru_the_victim_is_the_way_used_longest_ago() {
     steps.extend([0, 64, 128, 0, 192, 64].map(|address| (0, LOAD, address)));
     let listing = list(1, 4, 2, &steps);
     let lines: Vec<&str> = listing.lines().collect();
-    let due = ["2 fill 2", "3 fill 3", "4 hit 1", "5 evict 2 1 0", "6 evict 3 2 0", "domain 0 1 5 2 0 0"];
+    let due = ["2 fill 2", "3 fill 3", "4 hit 1", "5 evict 2 1 0", "6 evict 3 2 0", "domain 0 1 5 2 0 0 5 0"];
     assert_eq!(lines[..3], ["1 4 2 7", "0 policy 0 0", "1 fill 1"]);
     assert_eq!(lines[3..], due);
 }
@@ -394,8 +430,8 @@ const CORES: &str = "\
 23 refused 6
 24 refused 3
 25 refused 4
-domain 0 2 5 2 1 1
-domain 1 2 1 0 0 0
+domain 0 2 5 2 1 1 5 0
+domain 1 2 1 0 0 0 1 0
 ";
 
 #[test]
@@ -414,7 +450,7 @@ fn without_a_list_of_cores() {
     };
     let lines: Vec<String> =
         (0..).zip(&steps_of_cores()).map(|(place, step)| format!("{place} {}\n", due(step))).collect();
-    let counts = "domain 0 0 1 0 0 0\ndomain 1 0 0 0 0 0\n";
+    let counts = "domain 0 0 1 0 0 0 1 0\ndomain 1 0 0 0 0 0 0 0\n";
     assert_eq!(call(1, 4, 0, &steps_of_cores()), format!("1 4 0 26\n{}{counts}", lines.concat()));
 }
 
@@ -473,8 +509,8 @@ fn case_a_the_struck_out_run() {
 4 evict 0 0 1
 5 flush 1 0
 6 hit 0
-domain 0 1 3 1 1 1
-domain 1 0 0 0 0 0
+domain 0 1 3 1 1 1 3 0
+domain 1 0 0 0 0 0 0 0
 ";
     assert_eq!(list(1, 4, 0, &struck_out(0, &steps_of_case_a())), due);
 }
@@ -501,8 +537,8 @@ fn the_struck_out_run_of_cores() {
 13 refused 3
 14 refused 3
 15 refused 4
-domain 0 0 0 0 0 0
-domain 1 2 1 0 0 0
+domain 0 0 0 0 0 0 0 0
+domain 1 2 1 0 0 0 1 0
 ";
     assert_eq!(list(1, 4, 0, &struck_out(1, &steps_of_cores())), due);
 }

@@ -1,10 +1,13 @@
 //! The domains: "Each domain has a hit map, a fill map and five 32-bit counts: hits, misses, evicted, written back,
-//! flushed."
+//! flushed." By document 02, "the count record gains fills and dropped, in that order at its end".
 
 use crate::maps::{all_ways, Map};
 
 /// "Domains 0 to 15."
 pub const DOMAINS: usize = 16;
+
+/// By document 02 the counts of a domain are seven.
+pub const COUNTS: usize = 7;
 
 #[derive(Clone, Copy, PartialEq, Eq, Debug, Default)]
 pub struct Policy {
@@ -32,19 +35,28 @@ pub struct Counts {
     pub evicted: u32,
     pub written_back: u32,
     pub flushed: u32,
+    pub fills: u32,
+    pub dropped: u32,
 }
 
 impl Counts {
-    /// "Hits, misses, evicted, written back, flushed."
-    pub fn in_order(&self) -> [u32; 5] {
-        [self.hits, self.misses, self.evicted, self.written_back, self.flushed]
+    /// "Hits, misses, evicted, written back, flushed", then fills and dropped.
+    pub fn in_order(&self) -> [u32; COUNTS] {
+        [self.hits, self.misses, self.evicted, self.written_back, self.flushed, self.fills, self.dropped]
+    }
+
+    /// The record with these counts, in the same order.
+    pub fn from_order(counts: [u32; COUNTS]) -> Counts {
+        let [hits, misses, evicted, written_back, flushed, fills, dropped] = counts;
+        Counts { hits, misses, evicted, written_back, flushed, fills, dropped }
     }
 }
 
+/// A domain's policy, as it is stored, and its counts.
 #[derive(Clone, Copy, Default)]
-struct Domain {
-    stored: Policy,
-    counts: Counts,
+pub struct Domain {
+    pub stored: Policy,
+    pub counts: Counts,
 }
 
 /// The policies and counts of all domains, and W, by which a stored policy is read.
@@ -56,10 +68,20 @@ pub struct Domains {
 impl Domains {
     /// "All policies and counts are zero."
     pub fn fresh(ways: usize) -> Domains {
-        Domains { ways, table: [Domain::default(); DOMAINS] }
+        Domains::lent(ways, [Domain::default(); DOMAINS])
     }
 
-    /// A domain's policy as it is read. Every use of a policy is of this one.
+    /// Policies and counts that are lent: "A stored policy may hold anything", and so may a count.
+    pub fn lent(ways: usize, table: [Domain; DOMAINS]) -> Domains {
+        Domains { ways, table }
+    }
+
+    /// A domain's policy as it is stored.
+    pub fn stored(&self, domain: usize) -> Policy {
+        self.table[domain].stored
+    }
+
+    /// A domain's policy as it is read. Every use of a policy by a step is of this one.
     pub fn policy(&self, domain: usize) -> Policy {
         self.table[domain].stored.as_read(self.ways)
     }

@@ -5,9 +5,9 @@ use std::fmt::Write;
 
 use crate::cache::Cache;
 use crate::cores::{self, Core};
-use crate::domains::{Domains, DOMAINS};
+use crate::domains::{Counts, Domains, DOMAINS};
 use crate::numbers::Refusal;
-use crate::steps::Answer;
+use crate::steps::{Answer, Step};
 use crate::trace::{Form, Trace};
 
 /// Writing to a text cannot fail.
@@ -28,23 +28,27 @@ pub fn of_refused(refusal: Refusal) -> String {
 }
 
 /// The listing of the steps of a file, each of them a call, which is lent the list of cores if there is one. The first
-/// one gets a fresh cache; with a geometry outside the limits there is none, and number 1 turns all of them down. "A
-/// refused step does not end the run."
+/// one gets a fresh cache; with a geometry outside the limits there is none, and number 1 turns all of them down.
 pub fn of_calls(form: &Form, mut lent: Option<&mut [Core]>) -> String {
+    let mut cache = form.geometry().map(Cache::fresh);
+    let mut text = of_steps(form, |step| match (&mut cache, &mut lent) {
+        (Err(refusal), _) => Answer::Refused(*refusal),
+        (Ok(cache), None) => cache.step(step),
+        (Ok(cache), Some(cores)) => cores::step(cache, cores, step),
+    });
+    if let Ok(cache) = cache {
+        domain_lines(&mut text, cache.domains());
+    }
+    text
+}
+
+/// The first line, and those of the steps, which are done one after another: "A refused step does not end the run."
+pub fn of_steps(form: &Form, mut done: impl FnMut(&Step) -> Answer) -> String {
     let Form { sets, ways, rule, steps } = form;
     let mut text = String::with_capacity(64 + 32 * steps.len());
     writeln!(text, "{sets} {ways} {rule} {}", steps.len()).expect(WRITTEN);
-    let mut cache = form.geometry().map(Cache::fresh);
     for (place, step) in steps.iter().enumerate() {
-        let answer = match (&mut cache, &mut lent) {
-            (Err(refusal), _) => Answer::Refused(*refusal),
-            (Ok(cache), None) => cache.step(step),
-            (Ok(cache), Some(cores)) => cores::step(cache, cores, step),
-        };
-        step_line(&mut text, place, answer);
-    }
-    if let Ok(cache) = cache {
-        domain_lines(&mut text, cache.domains());
+        step_line(&mut text, place, done(step));
     }
     text
 }
@@ -67,10 +71,15 @@ fn step_line(text: &mut String, place: usize, answer: Answer) {
     .expect(WRITTEN);
 }
 
-/// "Then each domain whose hit map is not empty, ascending: `domain`, number and five counts."
+/// "Then each domain whose hit map is not empty, ascending: `domain`, number and five counts." By document 02 there are
+/// seven, fills and dropped "at its end and on the domain line".
 fn domain_lines(text: &mut String, domains: &Domains) {
     for domain in (0..DOMAINS).filter(|&domain| domains.policy(domain).hit_map != 0) {
-        let [hits, misses, evicted, written_back, flushed] = domains.counts(domain).in_order();
-        writeln!(text, "domain {domain} {hits} {misses} {evicted} {written_back} {flushed}").expect(WRITTEN);
+        writeln!(text, "domain {domain} {}", of_counts(domains.counts(domain))).expect(WRITTEN);
     }
+}
+
+/// The counts of a domain in their order.
+pub fn of_counts(counts: &Counts) -> String {
+    counts.in_order().map(|count| count.to_string()).join(" ")
 }

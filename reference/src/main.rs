@@ -3,14 +3,14 @@
 //! It reads a trace file from standard input and writes the listing that document 01, "Trace file and listing",
 //! defines; with the argument `rules` it writes what the replacement rules called alone give, with `visits` how many
 //! ways the lookup of each step visited and for which domain, with `slices` the listing of its steps as calls, which
-//! may have more sets than a trace file, and with `purge` and a domain the domain's struck-out list. It was written
-//! from document 01 and, for true LRU, the order of work in the lookup, larger slices, touches outside the fill map and
-//! core selectors, document 02, without packages, so that `tools/compare` can set it beside the proved programs. The
-//! rules, [`tree`], [`nru`] and [`lru`], the lookup that counts its visits, `find` in [`cache`], the limits of sets, in
-//! [`geometry`] and [`trace`], the core selectors, [`cores`], and what is struck out, in [`purge`], were written
-//! without a look at their proved code. [`rules`] and `HandOver` in [`replacement`] were not: the source of the crate
-//! replacement had been read, for its public calls. Nothing here is proved: where two programs differ, these documents
-//! decide which of them is wrong.
+//! may have more sets than a trace file, or records and tables that are lent, and with `purge` and a domain the domain's
+//! struck-out list. It was written from document 01 and, for true LRU, the order of work in the lookup, larger slices, touches outside the fill map, core selectors, and fills and drops,
+//! document 02, without packages, so that `tools/compare` can set it beside the proved programs. The rules, [`tree`],
+//! [`nru`] and [`lru`], the lookup that counts its visits, `find` in [`cache`], the limits of sets, in [`geometry`] and
+//! [`trace`], the core selectors, [`cores`], what is struck out, in [`purge`], the counts of fills and drops, in
+//! [`cache`], their number 7, in [`refusals`], and [`lent`] were written without a look at their proved code. [`rules`]
+//! and `HandOver` in [`replacement`] were not: the source of the crate replacement had been read, for its public calls.
+//! Nothing here is proved: where two programs differ, these documents decide which of them is wrong.
 //!
 //! Each module is one part of document 01, or of document 02 where it says so, and quotes the sentence that it follows.
 //! A module uses only modules that stand before it in this list:
@@ -22,15 +22,16 @@
 //! 5. [`replacement`]: the rule in use, by the geometry
 //! 6. [`steps`]: what a step asks for, and what it may be answered
 //! 7. [`domains`]: policies and counts
-//! 8. [`refusals`]: when a step is turned down, by the geometry and the domains
+//! 8. [`refusals`]: when a step is turned down, by the geometry, the domains and the valid maps
 //! 9. [`cache`]: the tables, access, flush and policy change
 //! 10. [`cores`]: core records; steps through cores, and selector writes
 //! 11. [`trace`]: the trace file
 //! 12. [`listing`]: the text of a trace
 //! 13. [`rules`]: the text of the rules called alone; it does not use `listing`
 //! 14. [`visits`]: the text of the ways visited; it uses neither `listing` nor `rules`
-//! 15. [`slices`]: the text of calls, by `listing`; it uses neither `rules` nor `visits`
-//! 16. [`purge`]: the text of a struck-out list; it uses none of the four texts before it
+//! 15. [`lent`]: the text of calls on lent records and tables, by `listing`; it uses neither `rules` nor `visits`
+//! 16. [`slices`]: the text of calls, by `listing` and `lent`; it uses neither `rules` nor `visits`
+//! 17. [`purge`]: the text of a struck-out list; it uses none of the texts before it
 //!
 //! Above them are this file and, in tests only, `cases`.
 //!
@@ -43,6 +44,7 @@ mod cases;
 mod cores;
 mod domains;
 mod geometry;
+mod lent;
 mod listing;
 mod lru;
 mod maps;
@@ -61,8 +63,8 @@ mod visits;
 use std::env;
 use std::io::{self, Read, Write};
 
-/// Standard input, to its end. Of a file longer than the largest one that stands, one byte too many is kept: enough
-/// for its length to be refused, however long it is.
+/// Standard input, to its end. Of a file longer than the largest one that stands, one byte too many is kept: enough for
+/// its length to be refused, however long it is.
 fn read_file() -> io::Result<Vec<u8>> {
     let mut input = io::stdin().lock();
     let mut file = Vec::with_capacity(trace::LARGEST_FILE + 1);

@@ -13,6 +13,11 @@ pub fn all_ways(ways: usize) -> Map {
     ((1u32 << ways) - 1) as Map
 }
 
+/// How many places of a map are set in the maps of a table, all sets together.
+pub fn set_places(table: &[Map], map: Map) -> u32 {
+    table.iter().map(|of_set| (of_set & map).count_ones()).sum()
+}
+
 pub fn holds(map: Map, way: usize) -> bool {
     map & only(way) != 0
 }

@@ -1,9 +1,10 @@
 //! "When a step is turned down": the numbers. What is asked for each of them stands where it is asked: number 10 in
 //! `trace`, 1 in `geometry`, 11 in `cores` with 3 and 5 of a selector write, the others in `refusals`; 5 and 9 of the
-//! rules called alone in `rules`. By document 02, "1 moves to the new limit" of sets, 10 has one more reason, and 11 is
-//! new.
+//! rules called alone in `rules`. By document 02, "1 moves to the new limit" of sets, 7 and 10 have one more reason
+//! each, and 11 is new.
 
-/// The refusals that a trace file can meet, each with its number. (No file of 4,096 steps reaches `CountSpent`.)
+/// The refusals that a trace file can meet, each with its number. (`CountSpent` is met with lent counts alone: from a
+/// fresh cache no file of 4,096 steps reaches it.)
 #[derive(Clone, Copy, PartialEq, Eq, Debug)]
 pub enum Refusal {
     /// "Geometry outside the limits."
@@ -16,7 +17,8 @@ pub enum Refusal {
     Argument = 5,
     /// "Access or flush by a domain with an empty hit map."
     NoWays = 6,
-    /// "Access or flush while any count of that domain is 4,294,967,295."
+    /// "Access or flush while any count of that domain is 4,294,967,295." By document 02, "7 covers seven counts, and
+    /// also a policy change, other than a removal, whose drops would carry dropped past the largest count".
     CountSpent = 7,
     /// "Policy whose hit map shares a way with another domain's."
     SharedWay = 8,

@@ -4,15 +4,15 @@
 //! The calls come from a file in the form of a trace file, and their text is in the form of a listing. Whichever sets,
 //! ways and rule the file names are those of its calls: outside the limits each call is refused by 1. No list of cores
 //! is lent: the kinds that name a core are unknown. So the text of a file that stands as a trace file, and has no step
-//! of these kinds, is its listing.
+//! of these kinds, is its listing. A file without the form may have records and tables before its trace file, [`lent`].
 
-use crate::listing;
 use crate::trace::Form;
+use crate::{lent, listing};
 
-/// The whole text. A file without the form gives the one line `refused 10`.
+/// The whole text. A file without the form that nothing is lent in gives the one line `refused 10`.
 pub fn of_file(file: &[u8]) -> String {
     match Form::read(file) {
         Ok(form) => listing::of_calls(&form, None),
-        Err(refusal) => listing::of_refused(refusal),
+        Err(_) => lent::of_file(file),
     }
 }

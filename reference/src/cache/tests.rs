@@ -4,6 +4,8 @@ use super::*;
 use crate::geometry::Rule;
 use crate::numbers::Refusal;
 
+mod drops;
+
 fn cache(ways: usize, rule: Rule) -> Cache {
     Cache::fresh(Geometry { sets: 1, ways, rule })
 }
@@ -42,15 +44,15 @@ fn a_policy_of_high_ways_alone_is_empty() {
     assert_eq!(cache.step(&store(0)), Answer::Refused(Refusal::NoWays));
 }
 
+/// The policy change drops no line, so that a full count does not turn it down.
 #[test]
-fn any_full_count_turns_down_access_and_flush_but_no_policy() {
-    for full in 0..5 {
+fn any_full_count_turns_down_access_and_flush() {
+    for full in 0..7 {
         let mut cache = cache(2, Rule::Nru);
         cache.step(&policy(3, 0));
-        let mut counts = [0; 5];
+        let mut counts = [0; 7];
         counts[full] = u32::MAX;
-        let [hits, misses, evicted, written_back, flushed] = counts;
-        *cache.domains.counts_mut(0) = Counts { hits, misses, evicted, written_back, flushed };
+        *cache.domains.counts_mut(0) = Counts::from_order(counts);
         assert_eq!(cache.step(&store(0)), Answer::Refused(Refusal::CountSpent));
         assert_eq!(cache.step(&flush(0)), Answer::Refused(Refusal::CountSpent));
         assert_eq!(cache.domains.counts(0).in_order(), counts);
@@ -60,14 +62,15 @@ fn any_full_count_turns_down_access_and_flush_but_no_policy() {
     }
 }
 
+/// One dirty, one not: both are dropped, and nothing is written back.
 #[test]
-fn dropped_lines_are_answered_and_not_counted() {
+fn dropped_lines_are_answered_and_counted() {
     let mut cache = cache(4, Rule::Nru);
     cache.step(&policy(3, 3));
     cache.step(&store(5));
     cache.step(&Step { kind: 1, ..store(6) });
     assert_eq!(cache.step(&policy(12, 12)), Answer::Policy { dropped: 2, dirty_dropped: 1 });
-    assert_eq!(cache.domains.counts(0).in_order(), [0, 2, 0, 0, 0]);
+    assert_eq!(cache.domains.counts(0).in_order(), [0, 2, 0, 0, 0, 2, 2]);
     assert_eq!((cache.valid[0], cache.dirty[0], &cache.tags[..]), (0, 0, &[0; 4][..]));
 }
 
@@ -114,10 +117,10 @@ fn only_two_zero_maps_zero_the_counts() {
     cache.step(&policy(3, 3));
     cache.step(&store(0));
     cache.step(&policy(3, 0));
-    assert_eq!(cache.domains.counts(0).in_order(), [0, 1, 0, 0, 0]);
+    assert_eq!(cache.domains.counts(0).in_order(), [0, 1, 0, 0, 0, 1, 0]);
     assert_eq!(cache.step(&store(1)), Answer::Pass);
     assert_eq!(cache.step(&policy(0, 0)), Answer::Policy { dropped: 1, dirty_dropped: 1 });
-    assert_eq!(cache.domains.counts(0).in_order(), [0; 5]);
+    assert_eq!(cache.domains.counts(0).in_order(), [0; 7]);
     assert_eq!(cache.step(&policy(0, 0)), Answer::Policy { dropped: 0, dirty_dropped: 0 });
     assert_eq!(cache.step(&policy(0, 1)), Answer::Refused(Refusal::Argument));
 }

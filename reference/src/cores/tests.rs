@@ -97,7 +97,7 @@ fn a_step_through_a_core_is_the_plain_step() {
         for domain in 0..16 {
             assert_eq!(by_cores.domains().counts(domain), by_domains.domains().counts(domain));
         }
-        assert!(by_cores.domains().counts(3).in_order().iter().all(|&count| count > 50));
+        assert!(by_cores.domains().counts(3).in_order()[..6].iter().all(|&count| count > 50));
     }
 }
 
@@ -177,7 +177,7 @@ fn a_list_too_long() {
         }
         assert_eq!(cores, vec![core(1, 2, 3); length]);
         for domain in 0..8 {
-            assert_eq!(cache.domains().counts(domain).in_order(), [0; 5]);
+            assert_eq!(cache.domains().counts(domain).in_order(), [0; 7]);
             assert_eq!(cache.domains().policy(domain).hit_map, 1 << domain);
         }
     }
