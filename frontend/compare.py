@@ -117,8 +117,8 @@ def _lines(whole: Run, struck: Run, domain: int) -> list[Ending]:
         for way in ways
     ]
     different = [ending for ending in endings if not ending.same]
-    valid = sum(left[number].valid >> way & 1 for number in left for way in ways)
-    return different or [Ending((f"{valid} valid", f"{valid} valid"), "lines in its ways")]
+    valid = [f"{run.stream.held[domain]} valid" for run in (whole, struck)]
+    return different or [Ending((valid[0], valid[1]), "lines in its ways")]
 
 
 def _own_data(whole: Run, struck: Run, domain: int) -> list[Ending]:

@@ -35,7 +35,7 @@ class Explainer:
     """Tells a trace step by step."""
 
     def __init__(self, run: Run, paint: Paint, show_all: bool) -> None:
-        self._trace, self._listing, self._blocks = run.trace, run.listing, run.blocks
+        self._trace, self._listing, self._blocks, self._held = run.trace, run.listing, run.blocks, run.stream.held
         self._paint = paint
         self._most = run.trace.sets if show_all else MOST_ROWS
         self._rows = dict(run.blocks[0].rows)
@@ -47,11 +47,7 @@ class Explainer:
             yield ""
             yield from self._step(place, step)
         yield ""
-        yield "At the end"
-        for domain, counts in self._listing.counts.items():
-            yield f"  domain {domain}: {words.counts(counts)}"
-        if not self._listing.counts:
-            yield "  no domain has ways"
+        yield from self._end()
 
     def _step(self, place: int, step: Step) -> Iterator[str]:
         """Tell one step."""
@@ -70,6 +66,20 @@ class Explainer:
         numbers = sorted(after.rows) if step.kind == POLICY else sorted({after.set, *after.rows})
         yield from self._changes(numbers, before, after)
         self._rows.update(after.rows)
+
+    def _end(self) -> Iterator[str]:
+        """Tell the counts of each domain that has ways, and where the lines went that it filled."""
+        counts = self._listing.counts
+        yield "At the end"
+        if not counts:
+            yield "  no domain has ways"
+            return
+        for domain in counts:
+            yield f"  domain {domain}: {words.counts(counts[domain])}"
+        yield ""
+        yield "Lines in and lines out"
+        for domain in counts:
+            yield f"  domain {domain}: {words.balance(counts[domain], self._held[domain])}"
 
     def _answer(self, answer: Answer, said: str) -> Iterator[str]:
         """Tell the answer, as listed and in words."""
@@ -121,6 +131,8 @@ def _said(step: Step, answer: Answer, before: Block, after: Block) -> str:
         return refusals.of_step(answer.fields[0], step, after.domain)
     if answer.word == "select":
         return words.selected(_record(before, step.named), _record(after, step.named))
+    if answer.word == "policy":
+        return words.changed(answer, step)
     return words.answer(answer, _locked(before, after.domain))
 
 

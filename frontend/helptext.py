@@ -13,9 +13,10 @@ STATUS = "\n".join(("exit status:", *(f"  {status:<4} {meaning}" for status, mea
 
 LIST = """\
 Print the listing of a trace, byte for byte what target/bin/lister writes: sets,
-ways, rule and number of steps; an answer for each step; and the counts of each
-domain that has ways. A step names a domain or a core; the lister lends records for
-cores 0 to 31, whose selectors CS, DS and ES are zero at first, which is domain 0.
+ways, rule and number of steps; an answer for each step; and for each domain that
+has ways its counts: hits, misses, evicted, written back, flushed, fills, dropped. A
+step names a domain or a core; the lister lends records for cores 0 to 31, whose
+selectors CS, DS and ES are zero at first, which is domain 0.
 
 A file that is refused as a whole has a listing too, 'refused' and the number: 10
 if it has not the length of a trace file, or too many steps or sets; else 1 if its
@@ -101,6 +102,16 @@ one hit, or all of them without a hit. An invalid way of the map is counted.
 A line that is hit or flushed in a way of the domain's hit map that is not in its
 fill map is said to be locked: no miss evicts it.
 
+At the end stand the counts of each domain that has ways, and its lines in and lines
+out since it was last removed, such as
+
+  domain 0: fills 3 = evicted 1 + flushed 1 + dropped 0 + held 1
+
+These are the lines that it filled; those that were evicted, that it flushed and that
+its own policy changes dropped; and those that it holds, which are now valid in its
+hit map, as target/bin/stepper says. That both sides are equal after every trace is
+proved.
+
 FILE is as for list. There is colour on a terminal only, unless NO_COLOR is set.
 """
 
@@ -109,7 +120,11 @@ EXAMPLES = {
     "assemble": ("./dipperlock assemble examples/case-a.txt -o case-a.trace", "./dipperlock list case-a.trace"),
     "show": ("./dipperlock assemble examples/case-a.txt -o case-a.trace", "./dipperlock show case-a.trace"),
     "isolate": ("./dipperlock isolate examples/case-a.txt 0", "./dipperlock isolate examples/core-switch.txt 1"),
-    "explain": ("./dipperlock explain examples/case-a.txt", "./dipperlock explain examples/core-switch.txt"),
+    "explain": (
+        "./dipperlock explain examples/case-a.txt",
+        "./dipperlock explain examples/core-switch.txt",
+        "./dipperlock explain examples/balance.txt",
+    ),
 }
 
 

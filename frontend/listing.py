@@ -3,6 +3,7 @@ from __future__ import annotations
 
 import re
 from dataclasses import dataclass
+from typing import NamedTuple
 
 from frontend import maps, tracefile
 from frontend.errors import MachineFailure
@@ -17,7 +18,7 @@ _NUMBER = "(0|[1-9][0-9]{0,19})"
 _REFUSED = re.compile("refused (1|10)")
 _HEADER = re.compile(" ".join([_NUMBER] * 4))
 _STEP = re.compile(f"{_NUMBER} ([a-z]+)((?: {_NUMBER})*)")
-_DOMAIN = re.compile(" ".join(["domain", *[_NUMBER] * 6]))
+_DOMAIN = re.compile(" ".join(["domain", *[_NUMBER] * 8]))
 
 
 @dataclass(frozen=True)
@@ -32,6 +33,18 @@ class Answer:
         return " ".join((self.word, *map(str, self.fields)))
 
 
+class Counts(NamedTuple):
+    """A domain's counts, in the order of its line."""
+
+    hits: int
+    misses: int
+    evicted: int
+    written_back: int
+    flushed: int
+    fills: int
+    dropped: int
+
+
 @dataclass(frozen=True)
 class Listing:
     """A listing: the number by which the file is refused, or the header, the answers and the domains' counts."""
@@ -39,7 +52,7 @@ class Listing:
     refused: int | None
     header: tuple[int, ...]
     answers: tuple[Answer, ...]
-    counts: dict[int, tuple[int, ...]]
+    counts: dict[int, Counts]
 
 
 class NotWhole(MachineFailure):
@@ -113,13 +126,13 @@ def _answer(lines: list[str], place: int) -> Answer:
     return Answer(match[2], fields)
 
 
-def _counts(lines: list[str], start: int) -> dict[int, tuple[int, ...]]:
+def _counts(lines: list[str], start: int) -> dict[int, Counts]:
     """Take the domain lines apart into each domain's counts."""
-    counts: dict[int, tuple[int, ...]] = {}
+    counts: dict[int, Counts] = {}
     for place in range(start, len(lines)):
         least = max(counts, default=-1) + 1
-        domain, *five = _numbers(_DOMAIN, lines, place, "a domain and its five counts, or the end")
+        domain, *seven = _numbers(_DOMAIN, lines, place, "a domain and its seven counts, or the end")
         if not least <= domain < DOMAINS:
             raise NotWhole(f"line {place + 1} is {quoted(lines[place])}, and domains go upwards from 0 to {DOMAINS - 1}")
-        counts[domain] = tuple(five)
+        counts[domain] = Counts(*seven)
     return counts

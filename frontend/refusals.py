@@ -50,7 +50,11 @@ REFUSALS = {
         "The domain's hit map is empty: it has no ways.",
         "Give it ways by a policy step before its first access or flush.",
     ),
-    7: Refusal("One of the domain's counts is 4,294,967,295 and cannot rise.", _REMOVE),
+    7: Refusal(
+        "One of the domain's seven counts is 4,294,967,295 and cannot rise,"
+        " or the lines that a policy change would drop would carry its count of dropped lines past that.",
+        _REMOVE,
+    ),
     8: Refusal(
         "The hit map shares a way with another domain's hit map.",
         "Leave the shared way out, or take it from the other domain by a policy step first.",
@@ -118,7 +122,7 @@ def _of_access(step: Step, domain: int | None) -> dict[int, Refusal]:
             f"The hit map of domain {domain} is empty: it has no ways.",
             f"Give it ways by a policy step first, or let {selector} name a domain that has ways.",
         ),
-        7: Refusal(f"One of the counts of domain {domain} is 4,294,967,295 and cannot rise.", _REMOVE),
+        7: Refusal(f"One of the seven counts of domain {domain} is 4,294,967,295 and cannot rise.", _REMOVE),
     }
 
 

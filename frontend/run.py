@@ -4,9 +4,9 @@ from __future__ import annotations
 from dataclasses import dataclass, replace
 
 from frontend import files, listing, parts, programs, refusals, source, stepper, tracefile, words
-from frontend.errors import BadInput
+from frontend.errors import BadInput, MachineFailure
 from frontend.listing import Listing
-from frontend.stepper import Block
+from frontend.stepper import Block, Stream
 from frontend.tracefile import Step, Trace
 
 _GEOMETRY, _FILE = 1, 10  # the numbers by which a whole file is refused
@@ -15,12 +15,17 @@ _UTF_16 = (b"\xff\xfe", b"\xfe\xff")  # how a text begins that two bytes write a
 
 @dataclass(frozen=True)
 class Run:
-    """A trace, its listing, the blocks of its stepper stream, and a domain's own part of each set's word, where that was asked for."""
+    """A trace, its listing, its stepper stream, and a domain's own part of each set's word, where that was asked for."""
 
     trace: Trace
     listing: Listing
-    blocks: list[Block]
+    stream: Stream
     own: tuple[int, ...] = ()
+
+    @property
+    def blocks(self) -> list[Block]:
+        """Give the fresh block, and one for each step."""
+        return self.stream.blocks
 
     def domain(self, place: int) -> int | None:
         """Give the domain that a step belongs to: the one that the cache took it for at that moment, if any."""
@@ -33,7 +38,9 @@ def take(name: str, data: bytes) -> Run:
     _, listed = listing_of(data)
     if listed.refused is not None:
         raise BadInput(why_refused(name, data, listed.refused))
-    return Run(trace, listed, stepper.parse(programs.stepper(data), trace))
+    taken = Run(trace, listed, stepper.parse(programs.stepper(data), trace))
+    _check_balance(taken)
+    return taken
 
 
 def with_own(run: Run, domain: int) -> Run:
@@ -68,6 +75,18 @@ def why_refused(name: str, data: bytes, number: int) -> str:
     if number == _GEOMETRY and not fault:
         refused += f": {words.geometry(tracefile.decode(data))}"
     return f"{refused}. {refusals.of_number(number)}"
+
+
+def _check_balance(taken: Run) -> None:
+    """Hold the lines that came in for each domain against those that went out and those that it holds.
+
+    That they are equal is a theorem; where they are not, a program is at fault."""
+    for domain, counts in taken.listing.counts.items():
+        held = taken.stream.held[domain]
+        out = counts.evicted + counts.flushed + counts.dropped + held
+        if counts.fills != out:
+            wrong = f"'{words.balance(counts, held)}' should hold, and the right side is {out:,}"
+            raise MachineFailure(f"target/bin/lister and target/bin/stepper do not agree on the lines of domain {domain}: {wrong}")
 
 
 def _hint(data: bytes) -> str:

@@ -1,5 +1,5 @@
 """The stepper's stream, taken apart: the maps and the core records, how many ways each step's lookup visited, the
-domain that the step was taken for, and the rows that it changed.
+domain that the step was taken for, and the rows that it changed; and after the last step the lines that each domain holds.
 
 A block has the row of an access's or a flush's set, and all rows for a policy change; the rows that are as they were are
 left out here."""
@@ -8,7 +8,7 @@ from __future__ import annotations
 import struct
 from dataclasses import dataclass, replace
 
-from frontend import cores
+from frontend import cores, maps
 from frontend.errors import MachineFailure
 from frontend.numbers import counted
 from frontend.text import show_step
@@ -19,6 +19,7 @@ NO_DOMAIN = 0xFFFF  # the number that stands for no domain
 _MAPS = struct.Struct(f"<{2 * DOMAINS}H")
 _RECORDS = struct.Struct(f"<{cores.LENT * len(cores.SELECTORS)}B")
 _PLACE = struct.Struct("<HHHH")
+_HELD = struct.Struct(f"<{DOMAINS}I")
 
 
 @dataclass(frozen=True)
@@ -47,8 +48,38 @@ class Block:
     rows: dict[int, Row]
 
 
-def parse(data: bytes, trace: Trace) -> list[Block]:
-    """Take a stream apart into the fresh block and one for each step; raise MachineFailure if it does not fit the trace."""
+@dataclass(frozen=True)
+class Stream:
+    """A stream: the fresh block and one for each step, and how many valid lines each domain's hit map has at the end."""
+
+    blocks: list[Block]
+    held: tuple[int, ...]
+
+
+def parse(data: bytes, trace: Trace) -> Stream:
+    """Take a stream apart; raise MachineFailure if it does not fit the trace."""
+    blocks, offset = _blocks(data, trace)
+    size = len(data) - offset
+    if size != _HELD.size:
+        due = f"the {_HELD.size} that say how many lines each domain holds"
+        raise _misfit(f"after its {counted(len(blocks), 'block')} it has {counted(size, 'byte')}, and should have {due}")
+    held = _HELD.unpack_from(data, offset)
+    _check_rows(blocks, trace)
+    _check_domains(blocks, trace)
+    _check_held(held, blocks[-1], trace)
+    return Stream(blocks, held)
+
+
+def rows_at_end(blocks: list[Block]) -> dict[int, Row]:
+    """Give every row as the last step left it."""
+    rows: dict[int, Row] = {}
+    for block in blocks:
+        rows.update(block.rows)
+    return rows
+
+
+def _blocks(data: bytes, trace: Trace) -> tuple[list[Block], int]:
+    """Take the fresh block and one for each step off a stream; give them and the offset of what follows."""
     blocks, offset, current = [], 0, {}
     try:
         for _ in range(len(trace.steps) + 1):
@@ -58,24 +89,17 @@ def parse(data: bytes, trace: Trace) -> list[Block]:
             blocks.append(replace(block, rows=changed))
     except struct.error as error:
         raise _misfit(f"it breaks off within block {len(blocks)} of {len(trace.steps) + 1}") from error
-    if offset != len(data):
-        raise _misfit(f"it goes on after the {len(blocks)} blocks of the trace")
+    return blocks, offset
+
+
+def _check_rows(blocks: list[Block], trace: Trace) -> None:
+    """Hold the rows against the sets of the trace, and the ways visited against its ways."""
     named = {number for block in blocks for number in (block.set, *block.rows)}
     if list(blocks[0].rows) != list(range(trace.sets)) or max(named) >= trace.sets:
         raise _misfit(f"its rows are not those of {trace.sets} sets")
     most = max(block.visited for block in blocks)
     if most > trace.ways:
         raise _misfit(f"a lookup visited {counted(most, 'way')}, and the trace has {counted(trace.ways, 'way')}")
-    _check_domains(blocks, trace)
-    return blocks
-
-
-def rows_at_end(blocks: list[Block]) -> dict[int, Row]:
-    """Give every row as the last step left it."""
-    rows: dict[int, Row] = {}
-    for block in blocks:
-        rows.update(block.rows)
-    return rows
 
 
 def _check_domains(blocks: list[Block], trace: Trace) -> None:
@@ -89,6 +113,14 @@ def _check_domains(blocks: list[Block], trace: Trace) -> None:
         changed = [core for core, record in enumerate(after.records) if record != before.records[core]]
         if changed and (step.kind, changed) != (SELECT, [step.named]):
             raise _misfit(f"{which} changed the record of core {changed[0]}")
+
+
+def _check_held(held: tuple[int, ...], last: Block, trace: Trace) -> None:
+    """Hold the number of lines that each domain holds against the room that its hit map has for them."""
+    for domain, lines in enumerate(held):
+        room = trace.sets * len(maps.members(last.hit[domain]))
+        if lines > room:
+            raise _misfit(f"domain {domain} holds {counted(lines, 'line')}, and its hit map has room for {room:,}")
 
 
 def _domain_of(step: Step, before: Block) -> int | None:
@@ -111,7 +143,7 @@ def _misfit(what: str) -> MachineFailure:
 
 def _block(data: bytes, offset: int, ways: int) -> tuple[Block, int]:
     """Take one block off a stream; give it and the offset of the next."""
-    maps = _MAPS.unpack_from(data, offset)
+    words = _MAPS.unpack_from(data, offset)
     offset += _MAPS.size
     records = _records(_RECORDS.unpack_from(data, offset))
     offset += _RECORDS.size
@@ -123,7 +155,7 @@ def _block(data: bytes, offset: int, ways: int) -> tuple[Block, int]:
         number, valid, dirty, word, *tags = form.unpack_from(data, offset)
         rows[number] = Row(valid, dirty, word, tuple(tags))
         offset += form.size
-    return Block(maps[::2], maps[1::2], records, place, visited, None if domain == NO_DOMAIN else domain, rows), offset
+    return Block(words[::2], words[1::2], records, place, visited, None if domain == NO_DOMAIN else domain, rows), offset
 
 
 def _records(numbers: tuple[int, ...]) -> tuple[tuple[int, ...], ...]:

@@ -2,7 +2,7 @@
 from __future__ import annotations
 
 from frontend import cores, maps
-from frontend.listing import Answer
+from frontend.listing import Answer, Counts
 from frontend.numbers import counted, hexadecimal
 from frontend.stepper import Row
 from frontend.tracefile import CORE_KINDS, KINDS, LRU, POLICY, SELECT, Step, Trace
@@ -11,7 +11,7 @@ _RULE_TITLES = {0: "Tree-PLRU", 1: "NRU", LRU: "true LRU"}
 _KINDS = {**KINDS, **CORE_KINDS}
 _VERBS = {"fetch": "fetches", "load": "loads", "store": "stores", "flush": "flushes"}
 _PLACE = 4  # bits of a way's place in an order
-_COUNTS = ("hits", "misses", "evicted", "written back", "flushed")
+_COUNTS = tuple(name.replace("_", " ") for name in Counts._fields)
 _LOCKED = {"hit": "Its line is locked", "flush": "It was locked"}
 
 
@@ -88,9 +88,15 @@ def order(word: int, ways: list[int]) -> str | None:
     return " ".join(("oldest first", *map(str, held))) if held else maps.NONE
 
 
-def counts(values: tuple[int, ...]) -> str:
+def counts(values: Counts) -> str:
     """Say a domain's counts by name."""
     return ", ".join(f"{name} {value:,}" for name, value in zip(_COUNTS, values))
+
+
+def balance(values: Counts, held: int) -> str:
+    """Write a domain's lines in and lines out as a line of arithmetic; `held` are those now valid in its hit map."""
+    out = ("evicted", values.evicted), ("flushed", values.flushed), ("dropped", values.dropped), ("held", held)
+    return f"fills {values.fills:,} = " + " + ".join(f"{name} {lines:,}" for name, lines in out)
 
 
 def answer(given: Answer, locked: int = 0) -> str:
@@ -102,6 +108,16 @@ def answer(given: Answer, locked: int = 0) -> str:
     if given.word in _LOCKED and given.fields[0] in maps.members(locked):
         said += f" {_LOCKED[given.word]}: the way is not in the domain's fill map."
     return said
+
+
+def changed(given: Answer, taken: Step) -> str:
+    """Say what an accepted policy change dropped, and what becomes of its domain's counts."""
+    said, dropped = answer(given), given.fields[0]
+    if taken.kind == POLICY and taken.argument == 0:
+        return f"{said} The domain is removed, and its counts are zero."
+    if not dropped:
+        return said
+    return f"{said} {'It counts' if dropped == 1 else 'They count'} as dropped for domain {taken.named}."
 
 
 def _evict(way: int, tag: int, dirty: int) -> str:

@@ -4,7 +4,7 @@ from __future__ import annotations
 import struct
 
 from frontend.stepper import Row
-from frontend.tests.helpers import block
+from frontend.tests.helpers import block, held
 
 _CODES = bytes((0, 16, 1, 16, 0, 2, 0, 1, 1, 1, 0, 1, 0, 3, 2, 1, 0, 1))
 _ARGUMENTS = (0x0003_0003, 0x000C_000C, 0, 64, 0, 128, 64, 0, 128)
@@ -21,8 +21,8 @@ LISTING = b"""\
 6 flush 1 0
 7 refused 6
 8 hit 0
-domain 0 1 3 1 1 1
-domain 1 0 1 0 0 0
+domain 0 1 3 1 1 1 3 0
+domain 1 0 1 0 0 0 1 0
 """
 
 _FIRST = {0: (3, 3)}
@@ -41,5 +41,6 @@ STREAM = b"".join(
         block(_BOTH, 0, _LAST, 2, 0),
         block(_BOTH, 0, _LAST, 0, 2),
         block(_BOTH, 0, _LAST, 1, 0),
+        held({0: 1, 1: 1}),
     )
 )

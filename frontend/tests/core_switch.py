@@ -4,7 +4,7 @@ from __future__ import annotations
 import struct
 
 from frontend.stepper import Row
-from frontend.tests.helpers import block
+from frontend.tests.helpers import block, held
 
 _STEPS = (
     (1, 16, 0x0003_0003),
@@ -49,8 +49,8 @@ LISTING = b"""\
 15 refused 11
 16 refused 3
 17 evict 3 2 1
-domain 1 2 2 0 1 1
-domain 2 2 3 1 1 0
+domain 1 2 2 0 1 1 2 0
+domain 2 2 3 1 1 0 3 0
 """
 
 _NONE = 65535
@@ -88,6 +88,7 @@ STREAM = b"".join(
         block(_BOTH, 0, _LATER, 0, _NONE, _SPLIT),  # refused 11
         block(_BOTH, 0, {}, 0, _NONE, _SPLIT),  # refused 3
         block(_BOTH, 0, _set(0b1110, 0b1100, 0b000, 1, 2, 1, 3), 2, 2, _SPLIT),
+        held({1: 1, 2: 2}),
     )
 )
 
@@ -106,8 +107,8 @@ STRUCK_LISTING = b"""\
 9 hit 1
 10 refused 11
 11 refused 3
-domain 1 2 2 0 1 1
-domain 2 0 0 0 0 0
+domain 1 2 2 0 1 1 2 0
+domain 2 0 0 0 0 0 0 0
 """
 _FLUSHED = _set(0b0010, 0, 0b000, 1, 2, 0, 0)
 STRUCK_STREAM = b"".join(
@@ -125,6 +126,7 @@ STRUCK_STREAM = b"".join(
         block(_BOTH, 0, _FLUSHED, 2, 1, _SPLIT),
         block(_BOTH, 0, _FLUSHED, 0, _NONE, _SPLIT),
         block(_BOTH, 0, {}, 0, _NONE, _SPLIT),
+        held({1: 1}),
     )
 )
 WORD = 0  # at the end of either run

@@ -112,3 +112,8 @@ def block(
     for number, row in (rows or {}).items():
         data += struct.pack(f"<HHHQ{len(row.tags)}Q", number, row.valid, row.dirty, row.word, *row.tags)
     return data
+
+
+def held(lines: dict[int, int]) -> bytes:
+    """Write what stands after the last block of a stepper stream: how many valid lines each domain holds."""
+    return struct.pack("<16I", *(lines.get(domain, 0) for domain in range(16)))

@@ -4,7 +4,7 @@ from __future__ import annotations
 import struct
 
 from frontend.stepper import Row
-from frontend.tests.helpers import block
+from frontend.tests.helpers import block, held
 
 _KINDS = (16, 1, 1, 1, 1, 16, 1, 1, 1, 2, 1, 1, 1, 16, 1, 3)
 _CODES = bytes(number for place, kind in enumerate(_KINDS) for number in (3 if place < 13 else 4, kind))
@@ -29,8 +29,8 @@ LISTING = b"""\
 13 policy 0 0
 14 pass
 15 absent
-domain 3 5 6 2 0 0
-domain 4 0 1 0 0 0
+domain 3 5 6 2 0 0 6 0
+domain 4 0 1 0 0 0 0 0
 """
 
 
@@ -64,5 +64,6 @@ STREAM = b"".join(
         block(_BOTH, 0, _LAST, 0, 4),
         block(_BOTH, 0, _LAST, 4, 4),
         block(_BOTH, 0, _LAST, 4, 4),
+        held({3: 4}),
     )
 )

@@ -68,6 +68,16 @@ class Help(InFolder):
         where = "in a way of the domain's hit map that is not in its fill map"
         self.assertIn(f"A line that is hit or flushed {where} is said to be locked: no miss evicts it.", said)
 
+    def test_help_says_what_the_counts_are(self):
+        said = " ".join(call("list", "--help")[1].decode().split())
+        self.assertIn("its counts: hits, misses, evicted, written back, flushed, fills, dropped.", said)
+
+    def test_explain_says_what_lines_in_and_lines_out_are(self):
+        said = " ".join(call("explain", "--help")[1].decode().split())
+        line = "domain 0: fills 3 = evicted 1 + flushed 1 + dropped 0 + held 1"
+        self.assertIn(f"its lines in and lines out since it was last removed, such as {line} These are the lines", said)
+        self.assertIn("that its own policy changes dropped; and those that it holds, which are now valid in its hit map,", said)
+
     def test_help_says_how_many_sets_a_file_holds(self):
         for command in ("list", "assemble"):
             said = " ".join(call(command, "--help")[1].decode().split())

@@ -12,8 +12,8 @@ from frontend.paint import Paint
 from frontend.programs import ROOT
 from frontend.run import Run
 from frontend.stepper import Row
-from frontend.tests import case_a, core_switch, locked_lines, true_lru
-from frontend.tests.helpers import block, by_rote, call
+from frontend.tests import balance, case_a, core_switch, locked_lines, true_lru
+from frontend.tests.helpers import block, by_rote, call, held
 from frontend.tracefile import Step, Trace
 
 
@@ -44,7 +44,15 @@ class CaseA(unittest.TestCase):
     def test_head_and_end(self):
         story = told_case_a()
         self.assertTrue(story.startswith("1 set, 4 ways, rule 0 (Tree-PLRU), 9 steps\n"))
-        self.assertIn("\n  domain 0: hits 1, misses 3, evicted 1, written back 1, flushed 1\n", story)
+        end = """
+At the end
+  domain 0: hits 1, misses 3, evicted 1, written back 1, flushed 1, fills 3, dropped 0
+  domain 1: hits 0, misses 1, evicted 0, written back 0, flushed 0, fills 1, dropped 0
+
+Lines in and lines out
+  domain 0: fills 3 = evicted 1 + flushed 1 + dropped 0 + held 1
+  domain 1: fills 1 = evicted 0 + flushed 0 + dropped 0 + held 1"""
+        self.assertTrue(story.endswith(end), story)
         self.assertNotIn("\x1b", story)
 
     def test_policy(self):
@@ -116,7 +124,7 @@ class TrueLru(unittest.TestCase):
     def test_orders_are_those_that_the_text_says(self):
         text = (ROOT / "examples" / "true-lru.txt").read_text(encoding="ascii")
         steps = [line for line in text.splitlines() if line[:1].isdigit()]
-        blocks = stepper.parse(true_lru.STREAM, tracefile.decode(true_lru.FILE))
+        blocks = stepper.parse(true_lru.STREAM, tracefile.decode(true_lru.FILE)).blocks
         said = {place: line.partition("oldest first ")[2][:7] for place, line in enumerate(steps) if "oldest first" in line}
         self.assertEqual(list(said), [0, 1, 5, 6, 8, 9, 12])
         for place, order in said.items():
@@ -125,7 +133,7 @@ class TrueLru(unittest.TestCase):
 
     def test_a_word_that_is_no_order(self):
         for word, written in ((0, "0x0000"), (0x3211, "0x3211"), (0x4321, "0x4321"), (0x1_0123, "0x1_0123")):
-            stream = block({}, 0, {0: Row(0, 0, word, (0,) * 4)}) + block({}, domain=3)
+            stream = block({}, 0, {0: Row(0, 0, word, (0,) * 4)}) + block({}, domain=3) + held({})
             story = told(Trace(1, 4, 2, (Step(3, 0, 0),)), b"1 4 2 1\n0 pass\n", stream)
             self.assertIn(f"\n     word   {written}  {written}\n", story)
             self.assertNotIn("oldest", story)
@@ -163,7 +171,7 @@ class LockedLines(unittest.TestCase):
         steps = [line for line in self.TEXT.splitlines() if line[:1].isdigit()][6:10]
         said = [re.findall("node 1 points [a-z]+|turns no node", line) for line in steps]
         self.assertEqual(said, [["node 1 points right"], ["turns no node"], ["node 1 points left"], ["turns no node"]])
-        blocks = stepper.parse(locked_lines.STREAM, tracefile.decode(locked_lines.FILE))
+        blocks = stepper.parse(locked_lines.STREAM, tracefile.decode(locked_lines.FILE)).blocks
         words = [stepper.rows_at_end(blocks[: place + 2])[0].word for place in range(6, 10)]
         self.assertEqual(words, [0b10, 0b10, 0, 0])
 
@@ -182,7 +190,8 @@ class Locked(unittest.TestCase):
     def said(self, rule: int, answer: str, then: dict[int, tuple[int, int]], now: dict[int, tuple[int, int]]) -> str:
         """Tell a step of domain 1 with the maps before and after it; give its answer in words."""
         step, rows = Step(1, 3 if answer.startswith("flush") else 1, 0), {0: Row(0b0100, 0, 0x0123, (0,) * 4)}
-        listed, stream = f"1 4 {rule} 1\n0 {answer}\n".encode(), block(then, 0, rows) + block(now, visited=1, domain=1)
+        stream = block(then, 0, rows) + block(now, visited=1, domain=1) + held({})
+        listed = f"1 4 {rule} 1\n0 {answer}\n".encode()
         (told_of_it,) = told_of_each_step(Trace(1, 4, rule, (step,)), listed, stream)
         return told_of_it.partition(f" {answer} ")[2].partition(" The lookup visited ")[0]
 
@@ -214,7 +223,8 @@ class Locked(unittest.TestCase):
 
     def test_answers_that_no_lister_gives(self):
         for domain, way in ((1, 0), (1, 99), (1, 10**19), (2, 2), (16, 2), (255, 2)):
-            stream = block({1: (0b0100, 0)}, 0, {0: Row(0, 0, 0, (0,) * 4)}) + block({}, domain=domain)
+            fresh = block({1: (0b0100, 0)}, 0, {0: Row(0, 0, 0, (0,) * 4)})
+            stream = fresh + block({}, domain=domain) + held({})
             story = told(Trace(1, 4, 0, (Step(domain, 1, 0),)), f"1 4 0 1\n0 hit {way}\n".encode(), stream)
             self.assertIn(f"\n  A hit in way {way}.\n", story)
 
@@ -275,7 +285,7 @@ class CoreSwitch(unittest.TestCase):
     def test_selectors_and_domains_are_those_that_the_text_says(self):
         said = re.findall(r"^core .*# ([CDE]S).*?\bdomain ([0-9])", self.TEXT, re.MULTILINE)
         self.assertEqual(said, re.findall(r"through ([CDE]S), which names domain ([0-9])\.", self.story()))
-        blocks = stepper.parse(core_switch.STREAM, self.TRACE)
+        blocks = stepper.parse(core_switch.STREAM, self.TRACE).blocks
         for line, block in list(zip(self.steps(), blocks[1:]))[2:]:
             named = re.search(r"# ([CDE]S.*?)?domain ([0-9])", line)
             self.assertEqual(named and int(named[2]), block.domain, line)
@@ -303,7 +313,7 @@ class Cores(unittest.TestCase):
     def said(self, step: Step, answer: str, domain: int = 65535, visited: int = 0, **changes) -> str:
         """Tell one step after which a block has changed; give its lines, joined."""
         after = {"visited": visited, "domain": domain, "records": self.HELD, **changes}
-        stream = block(self.MAPS, 0, self.FRESH, records=self.HELD) + block(self.MAPS, **after)
+        stream = block(self.MAPS, 0, self.FRESH, records=self.HELD) + block(self.MAPS, **after) + held({})
         (told_of_it,) = told_of_each_step(Trace(1, 4, 0, (step,)), f"1 4 0 1\n0 {answer}\n".encode(), stream)
         return told_of_it
 
@@ -326,7 +336,7 @@ class Cores(unittest.TestCase):
 
     def test_counts_that_are_full(self):
         said = self.said(Step(3, 32, 64), "refused 7", 1)
-        self.assertIn("Core 3 fetches through CS, which names domain 1. refused 7 One of the counts of domain 1", said)
+        self.assertIn("Core 3 fetches through CS, which names domain 1. refused 7 One of the seven counts of domain 1", said)
         self.assertIn("domain 2 has hit map 2,3 and fill map way3", said)
 
     def test_a_write_that_changes_nothing(self):
@@ -354,6 +364,49 @@ class Cores(unittest.TestCase):
             self.assertIn(f" {answer} ", self.said(step, answer, domain))
 
 
+class Balance(unittest.TestCase):
+    """The example of lines in and lines out, and how every story ends."""
+
+    TEXT = (ROOT / "examples" / "balance.txt").read_text(encoding="ascii")
+
+    def story(self) -> str:
+        return told(tracefile.decode(balance.FILE), balance.LISTING, balance.STREAM)
+
+    def step(self, place: int) -> str:
+        return self.story().partition(f"\nstep {place} ")[2].partition("\n\n")[0]
+
+    def ending(self, example) -> list[str]:
+        """Give the last lines of an example's story, under their title."""
+        story = told(tracefile.decode(example.FILE), example.LISTING, example.STREAM)
+        return story.partition("\n\nLines in and lines out\n")[2].splitlines()
+
+    def test_the_end(self):
+        self.assertEqual(self.ending(balance), [f"  domain {domain}: {said}" for domain, said in balance.BALANCES.items()])
+        counts = "hits 0, misses 5, evicted 1, written back 1, flushed 1, fills 5, dropped 1"
+        self.assertIn(f"\n\nAt the end\n  domain 0: {counts}\n  domain 1: hits 0, misses 1, ", self.story())
+
+    def test_the_text_ends_with_the_same(self):
+        for domain, said in balance.BALANCES.items():
+            self.assertEqual(re.findall(f"^{domain} .*(fills [0-9]+ = .*)$", self.TEXT, re.MULTILINE)[-1], said)
+
+    def test_policy_changes(self):
+        dropped, removed = "It counts as dropped for domain 0.", "The domain is removed, and its counts are zero."
+        self.assertIn(f"\n  policy 1 0\n  Accepted; dropped 1 valid line, 0 dirty. {dropped}\n", self.step(9))
+        self.assertIn(f"\n  policy 1 1\n  Accepted; dropped 1 valid line, 1 dirty. {removed}\n", self.step(10))
+        self.assertIn("\n  policy 0 0\n  Accepted; no valid line was dropped.\n", self.step(11))
+
+    def test_a_line_for_each_domain_line(self):
+        for example, domains in ((case_a, "01"), (locked_lines, "34"), (core_switch, "12"), (true_lru, "01")):
+            form = "  domain ([0-9]): fills [0-9]+ = evicted [0-9]+ [+] flushed [0-9]+ [+] dropped [0-9]+ [+] held [0-9]+"
+            found = [re.fullmatch(form, line)[1] for line in self.ending(example)]
+            self.assertEqual("".join(found), domains)
+
+    def test_no_domain_has_ways(self):
+        stream = block({}, 0, {0: Row(0, 0, 0, (0, 0))}) + block({}, domain=3) + held({})
+        story = told(Trace(1, 2, 0, (Step(3, 1, 0),)), b"1 2 0 1\n0 refused 6\n", stream)
+        self.assertTrue(story.endswith("\n\nAt the end\n  no domain has ways"), story)
+
+
 class Policies(unittest.TestCase):
     """Policy steps that change many rows, and rows of several domains."""
 
@@ -365,14 +418,15 @@ class Policies(unittest.TestCase):
         full = {number: Row(1, 1, 2, (number + 1, 0)) for number in range(self.SETS)}
         empty = {number: Row(0, 0, 3, (0, 0)) for number in range(self.SETS)}
         trace = Trace(sets, 2, 1, (Step(0, 2, 0), Step(0, 16, 0)))
-        stream = fresh + block({0: (1, 1)}, 0, full, domain=0) + block({}, 0, empty, domain=0)
+        stream = fresh + block({0: (1, 1)}, 0, full, domain=0) + block({}, 0, empty, domain=0) + held({})
         return told(trace, b"8 2 1 2\n0 fill 0\n1 policy 7 7\n", stream, show_all=show_all).partition("\nstep 1")[2]
 
     def test_summary(self):
         story = self.story(False)
         self.assertEqual(story.count("before"), MOST_ROWS)
         self.assertIn(f"\n  {self.SETS - MOST_ROWS} more sets changed; --all shows them", story)
-        self.assertIn("\n  Accepted; dropped 7 valid lines, 7 dirty.\n", story)
+        removed = "The domain is removed, and its counts are zero."
+        self.assertIn(f"\n  Accepted; dropped 7 valid lines, 7 dirty. {removed}\n", story)
         self.assertRegex(story, r"\n  \*  way 0  tag 1, dirty +empty +domain 0 -> -  domain 0 -> -\n")
         self.assertRegex(story, r"\n  \*  word   0x2 \(one at way 1\) +0x3 \(one at ways 0,1\)\n")
         self.assertIn("\n  no domain has ways", story)
@@ -383,7 +437,7 @@ class Policies(unittest.TestCase):
         self.assertNotIn("--all", story)
 
     def test_way_of_two_domains(self):
-        stream = block({}, 0, {0: Row(0, 0, 0, (0, 0))}) + block({3: (1, 0), 12: (1, 1)}, domain=3)
+        stream = block({}, 0, {0: Row(0, 0, 0, (0, 0))}) + block({3: (1, 0), 12: (1, 1)}, domain=3) + held({})
         story = told(Trace(1, 2, 0, (Step(3, 0, 0),)), b"1 2 0 1\n0 pass\n", stream)
         self.assertRegex(story, r"way 0  empty +empty +- -> domain 3,12  - -> domain 12\n")
 
@@ -418,9 +472,42 @@ class Command(unittest.TestCase):
         self.assertEqual((status, err), (0, ""))
         self.assertEqual(out.decode(), told_case_a() + "\n")
 
-    def test_programs_that_disagree(self):
-        with by_rote(lister=lambda data: case_a.LISTING, stepper=lambda data: b""):
+    def refused(self, listed: bytes, stream: bytes) -> str:
+        """Explain case A by what programs might have said, which is not to be printed; give the error."""
+        with by_rote(lister=lambda data: listed, stepper=lambda data: stream):
             status, out, err = call("explain", "-", stdin=case_a.FILE)
-        self.assertEqual((status, out), (3, b""))
+        self.assertEqual((status, out), (3, b""), err)
+        return err
+
+    def test_programs_that_disagree(self):
         what = "target/bin/stepper did not give a whole stream of this trace: it breaks off within block 0 of 10"
-        self.assertEqual(err, f"dipperlock: {what}\n")
+        self.assertEqual(self.refused(case_a.LISTING, b""), f"dipperlock: {what}\n")
+
+    def test_a_stepper_of_before_the_lines_held(self):
+        due = "it has 0 bytes, and should have the 64 that say how many lines each domain holds"
+        what = f"target/bin/stepper did not give a whole stream of this trace: after its 10 blocks {due}"
+        self.assertEqual(self.refused(case_a.LISTING, case_a.STREAM[:-64]), f"dipperlock: {what}\n")
+
+    def test_lines_that_do_not_balance(self):
+        blocks, zero = case_a.STREAM[:-64], "evicted 0 + flushed 0 + dropped 0"
+        for listed, end, domain, said, out in (
+            (case_a.LISTING, {0: 2, 1: 1}, 0, "fills 3 = evicted 1 + flushed 1 + dropped 0 + held 2", 4),
+            (case_a.LISTING, {0: 0, 1: 1}, 0, "fills 3 = evicted 1 + flushed 1 + dropped 0 + held 0", 2),
+            (case_a.LISTING, {0: 1, 1: 0}, 1, f"fills 1 = {zero} + held 0", 0),
+            (case_a.LISTING.replace(b"1 1 1 3 0", b"1 1 1 4 0"), {0: 1, 1: 1}, 0, "fills 4 = evicted 1 +", 3),
+            (case_a.LISTING.replace(b"1 1 1 3 0", b"1 1 1 3 1"), {0: 1, 1: 1}, 0, "flushed 1 + dropped 1 + held 1", 4),
+            (case_a.LISTING.replace(b"1 1 1 3 0", b"1 1 0 3 0"), {0: 1, 1: 1}, 0, "evicted 1 + flushed 0 + dropped 0 +", 2),
+            (case_a.LISTING.replace(b"3 1 1 1 3 0", b"3 2 1 1 3 0"), {0: 1, 1: 1}, 0, "= evicted 2 + flushed 1 +", 4),
+            (case_a.LISTING.replace(b"0 0 0 1 0", b"0 0 0 0 0"), {0: 1, 1: 1}, 1, f"fills 0 = {zero} + held 1", 1),
+        ):
+            err = self.refused(listed, blocks + held(end))
+            agree = f"target/bin/lister and target/bin/stepper do not agree on the lines of domain {domain}: '"
+            self.assertTrue(err.startswith(f"dipperlock: {agree}fills ") and said in err, err)
+            self.assertTrue(err.endswith(f"' should hold, and the right side is {out}\n"), err)
+
+    def test_counts_that_the_balance_does_not_have(self):
+        listed = case_a.LISTING.replace(b"domain 0 1 3 1 1 1 3 0", b"domain 0 9 9 1 9 1 3 0")
+        with by_rote(lister=lambda data: listed, stepper=lambda data: case_a.STREAM):
+            status, out, _ = call("explain", "-", stdin=case_a.FILE)
+        self.assertEqual(status, 0)
+        self.assertIn(b"\n  domain 0: fills 3 = evicted 1 + flushed 1 + dropped 0 + held 1\n", out)

@@ -12,7 +12,7 @@ from frontend.paint import Paint
 from frontend.run import Run
 from frontend.stepper import Row
 from frontend.tests import core_switch, true_lru
-from frontend.tests.helpers import block, by_rote, call
+from frontend.tests.helpers import block, by_rote, call, held
 from frontend.tracefile import Step, Trace
 
 STEPS = (
@@ -36,8 +36,8 @@ WHOLE_LISTING = b"""\
 4 refused 8
 5 flush 1 0
 6 evict 0 0 0
-domain 0 0 2 1 0 0
-domain 1 0 1 0 0 1
+domain 0 0 2 1 0 0 2 0
+domain 1 0 1 0 0 1 1 0
 """
 STRUCK_LISTING = b"""\
 1 2 1 5
@@ -46,8 +46,8 @@ STRUCK_LISTING = b"""\
 2 fill 0
 3 refused 8
 4 evict 0 0 0
-domain 0 0 2 1 0 0
-domain 1 0 0 0 0 0
+domain 0 0 2 1 0 0 2 0
+domain 1 0 0 0 0 0 0 0
 """
 BOTH = {0: (1, 1), 1: (2, 2)}
 FRESH = block({}, 0, {0: Row(0, 0, 3, (0, 0))})
@@ -60,11 +60,18 @@ WHOLE_STREAM = b"".join(
         block(BOTH, domain=2),
         block(BOTH, 0, {0: Row(1, 0, 0, (0, 0))}, 1, 1),
         block(BOTH, 0, {0: Row(1, 0, 0, (1, 0))}, 1, 0),
+        held({0: 1}),
     )
 )
-STRUCK_LAST = block(BOTH, 0, {0: Row(1, 0, 2, (1, 0))}, 1, 0)
 STRUCK_MID = block(BOTH, 0, {0: Row(1, 0, 2, (0, 0))}, 1, 0) + block(BOTH, domain=2)
-STRUCK_STREAM = FRESH + MADE + STRUCK_MID + STRUCK_LAST
+
+
+def struck_stream(last: bytes) -> bytes:
+    """Write the stream of the struck-out run with a last block."""
+    return FRESH + MADE + STRUCK_MID + last + held({0: 1})
+
+
+STRUCK_STREAM = struck_stream(block(BOTH, 0, {0: Row(1, 0, 2, (1, 0))}, 1, 0))
 
 
 def run_of(trace: Trace, listed: bytes, stream: bytes) -> Run:
@@ -99,7 +106,8 @@ class Compare(unittest.TestCase):
         self.assertNotIn("*", told)
         self.assertRegex(told, r"\n +0 +0 +asks for .* +policy 0 0 +policy 0 0\n")
         self.assertRegex(told, r"\n +6 +4 +loads at 0x40 +evict 0 0 0, 1 way visited +evict 0 0 0, 1 way visited\n")
-        self.assertRegex(told, r"\n +line of the listing +domain 0 0 2 1 0 0 +domain 0 0 2 1 0 0\n")
+        self.assertRegex(told, r"\n +line of the listing +domain 0 0 2 1 0 0 2 0 +domain 0 0 2 1 0 0 2 0\n")
+        self.assertRegex(told, r"\n +lines in its ways +1 valid +1 valid\n")
         self.assertRegex(told, r"\n +core records +0 of 32 not zero +0 of 32 not zero\n")
         self.assertNotIn("by cores", told)
 
@@ -118,7 +126,7 @@ class Compare(unittest.TestCase):
         self.assertIn("\nNext difference: step 6 (4 in the struck-out run), domain 0 loads at 0x40: 'evict 0 0 0, 1", told)
 
     def test_different_number_of_ways_visited(self):
-        stream = STRUCK_STREAM[: -len(STRUCK_LAST)] + block(BOTH, 0, {0: Row(1, 0, 2, (1, 0))}, 2, 0)
+        stream = struck_stream(block(BOTH, 0, {0: Row(1, 0, 2, (1, 0))}, 2, 0))
         self.assertEqual([pair.places for pair in self.found(stream=stream).differences()], [(6, 4)])
         told = self.rendered(stream=stream)
         self.assertRegex(told, r"\n\* +6 +4 .* +evict 0 0 0, 1 way visited +evict 0 0 0, 2 ways visited +<- first difference\n")
@@ -130,7 +138,7 @@ class Compare(unittest.TestCase):
         )
 
     def test_a_lookup_in_one_run_alone(self):
-        stream = STRUCK_STREAM[: -len(STRUCK_LAST)] + block(BOTH, 0, {0: Row(1, 0, 2, (1, 0))}, 0, 0)
+        stream = struck_stream(block(BOTH, 0, {0: Row(1, 0, 2, (1, 0))}, 0, 0))
         first = self.found(stream=stream).differences()[0]
         self.assertEqual(first.seen, ("evict 0 0 0, 1 way visited", "evict 0 0 0"))
 
@@ -149,30 +157,34 @@ class Compare(unittest.TestCase):
         self.assertEqual(self.found(STRUCK_LISTING.replace(b"1 policy 0 0", b"1 policy 5 2")).differences(), [])
 
     def test_counts_of_another_domain_may_differ(self):
-        self.assertEqual(self.found(STRUCK_LISTING.replace(b"domain 1 0 0 0 0 0\n", b"")).differences(), [])
+        self.assertEqual(self.found(STRUCK_LISTING.replace(b"domain 1 0 0 0 0 0 0 0\n", b"")).differences(), [])
 
     def test_different_counts(self):
-        first = self.found(STRUCK_LISTING.replace(b"domain 0 0 2", b"domain 0 1 2")).differences()[0]
-        self.assertEqual(first.seen, ("domain 0 0 2 1 0 0", "domain 0 1 2 1 0 0"))
+        line = "domain 0 0 2 1 0 0 2 0"
+        for place in range(2, 9):
+            numbers = line.split()
+            other = " ".join((*numbers[:place], "9", *numbers[place + 1 :]))
+            first = self.found(STRUCK_LISTING.replace(line.encode(), other.encode())).differences()[0]
+            self.assertEqual(first.seen, (line, other))
 
     def test_line_of_the_domain_missing(self):
-        told = self.rendered(STRUCK_LISTING.replace(b"domain 0 0 2 1 0 0\n", b""))
-        self.assertRegex(told, r"\n\* +line of the listing +domain 0 0 2 1 0 0 +none +<- first difference\n")
+        told = self.rendered(STRUCK_LISTING.replace(b"domain 0 0 2 1 0 0 2 0\n", b""))
+        self.assertRegex(told, r"\n\* +line of the listing +domain 0 0 2 1 0 0 2 0 +none +<- first difference\n")
         self.assertIn("First difference: at the end, line of the listing:", told)
 
     def test_different_line_in_its_way(self):
-        stream = STRUCK_STREAM[: -len(STRUCK_LAST)] + block(BOTH, 0, {0: Row(1, 1, 2, (1, 0))}, 1, 0)
+        stream = struck_stream(block(BOTH, 0, {0: Row(1, 1, 2, (1, 0))}, 1, 0))
         first = self.found(stream=stream).differences()[0]
         self.assertEqual((first.name, first.seen), ("set 0 way 0", ("tag 1", "tag 1, dirty")))
 
     def test_different_map(self):
-        stream = STRUCK_STREAM[: -len(STRUCK_LAST)] + block({0: (1, 0), 1: (2, 2)}, 0, {0: Row(1, 0, 2, (1, 0))}, 1, 0)
+        stream = struck_stream(block({0: (1, 0), 1: (2, 2)}, 0, {0: Row(1, 0, 2, (1, 0))}, 1, 0))
         first = self.found(stream=stream).differences()[0]
         self.assertEqual((first.name, first.seen), ("fill map", ("way0", "none")))
 
     def test_steps_that_do_not_pair(self):
         with self.assertRaises(MachineFailure):
-            compare(WHOLE_RUN, run_of(Trace(1, 2, 1, ()), b"1 2 1 0\n", FRESH), 0)
+            compare(WHOLE_RUN, run_of(Trace(1, 2, 1, ()), b"1 2 1 0\n", FRESH + held({})), 0)
 
 
 class Counted(unittest.TestCase):
@@ -184,8 +196,8 @@ class Counted(unittest.TestCase):
         policy = Step(0, 16, 0x3_0003)
         fresh = {number: Row(0, 0, 0, (0, 0)) for number in range(self.SETS)}
         last = {number: Row(3, dirty, 0, (1, 2)) for number in range(self.SETS)}
-        stream = block({}, 0, fresh) + block({0: (3, 3)}, 0, last, domain=0)
-        listed = b"8 2 0 1\n0 policy 0 0\ndomain 0 0 0 0 0 0\n"
+        stream = block({}, 0, fresh) + block({0: (3, 3)}, 0, last, domain=0) + held({0: self.SETS * self.WAYS})
+        listed = b"8 2 0 1\n0 policy 0 0\ndomain 0 0 0 0 0 0 0 0\n"
         return run_of(Trace(self.SETS, self.WAYS, 0, (policy,)), listed, stream)
 
     def test_every_line_counts(self):
@@ -215,7 +227,7 @@ def refused_run(steps: tuple[Step, ...], *domains: int, records: dict[int, tuple
     """Make a run in which every step was refused, and taken for a domain."""
     listed = "".join(f"{place} refused 6\n" for place in range(len(steps)))
     fresh = block({}, 0, {0: Row(0, 0, 0, (0, 0))}, records=records)
-    stream = fresh + b"".join(block({}, domain=domain, records=records) for domain in domains)
+    stream = fresh + b"".join(block({}, domain=domain, records=records) for domain in domains) + held({})
     return run_of(Trace(1, 2, 0, steps), f"1 2 0 {len(steps)}\n{listed}".encode(), stream)
 
 
@@ -299,12 +311,13 @@ class Command(unittest.TestCase):
         struck_listing: bytes,
         kept: tuple[Step, ...] = STRUCK.steps,
         said_parts: tuple[bytes, bytes] = (b"0\n", b"0\n"),
-        struck_stream: bytes = STRUCK_STREAM,
+        stream: bytes = STRUCK_STREAM,
+        whole_stream: bytes = WHOLE_STREAM,
     ) -> tuple[int, bytes, str]:
         whole, struck_file = tracefile.encode(WHOLE), tracefile.encode(STRUCK)
         said = {
             "lister": {whole: WHOLE_LISTING, struck_file: struck_listing}.__getitem__,
-            "stepper": {whole: WHOLE_STREAM, struck_file: struck_stream}.__getitem__,
+            "stepper": {whole: whole_stream, struck_file: stream}.__getitem__,
             "purger": lambda data, domain: {(whole, 0): lines_of(kept)}[data, domain],
             "parts": lambda entries: {PARTS_ASKED[0]: said_parts[0], PARTS_ASKED[1]: said_parts[1]}[entries],
         }
@@ -328,10 +341,17 @@ class Command(unittest.TestCase):
         self.assertIn(b"'0x0' in the whole run, '0x1' in the struck-out run", out)
 
     def test_ways_visited_that_differ(self):
-        stream = STRUCK_STREAM[: -len(STRUCK_LAST)] + block(BOTH, 0, {0: Row(1, 0, 2, (1, 0))}, 2, 0)
-        status, out, err = self.isolate(STRUCK_LISTING, struck_stream=stream)
+        stream = struck_stream(block(BOTH, 0, {0: Row(1, 0, 2, (1, 0))}, 2, 0))
+        status, out, err = self.isolate(STRUCK_LISTING, stream=stream)
         self.assertEqual((status, err), (1, ""))
         self.assertIn(b"'evict 0 0 0, 1 way visited' in the whole run, 'evict 0 0 0, 2 ways visited' in the struck-out run", out)
+
+    def test_lines_that_do_not_balance(self):
+        none, agree = held({}), "target/bin/lister and target/bin/stepper do not agree on the lines of domain 0: "
+        said = "'fills 2 = evicted 1 + flushed 0 + dropped 0 + held 0' should hold, and the right side is 1"
+        for streams in ({"stream": STRUCK_STREAM[:-64] + none}, {"whole_stream": WHOLE_STREAM[:-64] + none}):
+            status, out, err = self.isolate(STRUCK_LISTING, **streams)
+            self.assertEqual((status, out, err), (3, b"", f"dipperlock: {agree}{said}\n"))
 
     def test_parts_that_are_not_whole(self):
         for answer in (b"", b"0", b"0\n0\n", b"refused 5\n", b"-1\n", b"\n", b"\xff\n"):
@@ -402,8 +422,8 @@ class TrueLru(unittest.TestCase):
             (2, (0x1,) * 4, "oldest first 1"),
             (0, (0,) * 4, "none"),
         ):
-            trace, listed = Trace(4, 2, 2, (Step(0, 16, 3 | fill << 16),)), b"4 2 2 1\n0 policy 0 0\ndomain 0 0 0 0 0 0\n"
-            run = replace(run_of(trace, listed, stream + block({0: (3, fill)}, domain=0)), own=own)
+            trace, listed = Trace(4, 2, 2, (Step(0, 16, 3 | fill << 16),)), b"4 2 2 1\n0 policy 0 0\ndomain 0 0 0 0 0 0 0 0\n"
+            run = replace(run_of(trace, listed, stream + block({0: (3, fill)}, domain=0) + held({})), own=own)
             ending = compare(run, run, 0).endings[-2]
             self.assertEqual((ending.name, ending.seen), ("own replacement data", (said, said)))
 
@@ -493,7 +513,7 @@ class Records(unittest.TestCase):
 
     def run_of(self, *records: dict[int, tuple[int, int, int]]) -> Run:
         fresh = block({}, 0, {0: Row(0, 0, 0, (0, 0))})
-        stream = fresh + b"".join(block({}, records=held) for held in records)
+        stream = fresh + b"".join(block({}, records=record) for record in records) + held({})
         return run_of(Trace(1, 2, 0, self.STEPS), b"1 2 0 2\n0 select 1 2 3\n1 select 0 0 0\n", stream)
 
     def endings(self, whole: Run, struck: Run) -> list[tuple[str, tuple[str, str]]]:

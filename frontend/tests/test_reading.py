@@ -5,10 +5,10 @@ import unittest
 
 from frontend import listing, refusals, stepper, text, tracefile, words
 from frontend.errors import MachineFailure
-from frontend.listing import Answer
+from frontend.listing import Answer, Counts
 from frontend.stepper import Row
-from frontend.tests import case_a, core_switch
-from frontend.tests.helpers import block
+from frontend.tests import balance, case_a, core_switch
+from frontend.tests.helpers import block, held
 from frontend.tracefile import Step, Trace
 
 
@@ -20,19 +20,24 @@ class Listings(unittest.TestCase):
         self.assertIsNone(listed.refused)
         self.assertEqual(listed.answers[5], Answer("evict", (0, 0, 1)))
         self.assertEqual(" | ".join(map(str, listed.answers[6:])), "flush 1 0 | refused 6 | hit 0")
-        self.assertEqual(listed.counts, {0: (1, 3, 1, 1, 1), 1: (0, 1, 0, 0, 0)})
+        self.assertEqual(listed.counts, {0: (1, 3, 1, 1, 1, 3, 0), 1: (0, 1, 0, 0, 0, 1, 0)})
 
     def test_core_switch(self):
         listed = listing.parse(core_switch.LISTING)
         listing.check(listed, core_switch.FILE)
         self.assertEqual(listed.answers[9], Answer("select", (1, 1, 2)))
         self.assertEqual(" | ".join(map(str, listed.answers[14:])), "hit 1 | refused 11 | refused 3 | evict 3 2 1")
-        self.assertEqual(listed.counts, {1: (2, 2, 0, 1, 1), 2: (2, 3, 1, 1, 0)})
+        self.assertEqual(listed.counts, {1: (2, 2, 0, 1, 1, 2, 0), 2: (2, 3, 1, 1, 0, 3, 0)})
+
+    def test_the_order_of_counts(self):
+        (counts,) = listing.parse(b"1 4 0 0\ndomain 15 1 2 3 4 5 6 7\n").counts.values()
+        named = {"hits": 1, "misses": 2, "evicted": 3, "written_back": 4, "flushed": 5, "fills": 6, "dropped": 7}
+        self.assertEqual(counts, Counts(**named))
 
     def test_a_core_is_no_domain_with_ways(self):
         steps = Step(0, 16, 0x1_0001), Step(3, 40, 0x0F_0F0F), Step(7, 33, 0x1_0001)
         data = tracefile.encode(Trace(1, 4, 0, steps))
-        listing.check(listing.parse(b"1 4 0 3\n0 policy 0 0\n1 select 15 15 15\n2 hit 0\ndomain 0 0 0 0 0 0\n"), data)
+        listing.check(listing.parse(b"1 4 0 3\n0 policy 0 0\n1 select 15 15 15\n2 hit 0\ndomain 0 0 0 0 0 0 0 0\n"), data)
 
     def test_refused_files(self):
         for number in (1, 10):
@@ -55,12 +60,13 @@ class Listings(unittest.TestCase):
             b"1 4 0 1\n0 select 1 1 1 1\n",
             b"1 4 0 1\n0 select cs=1 ds=1 es=1\n",
             b"1 4 0 1\n0 hit 00\n",
-            b"1 4 0 0\nrealm 0 1 2 3 4 5\n",
-            b"1 4 0 0\ndomain 0 1 2 3 4\n",
+            b"1 4 0 0\nrealm 0 1 2 3 4 5 6 7\n",
+            b"1 4 0 0\ndomain 0 1 2 3 4 5\n",
             b"1 4 0 0\ndomain 0 1 2 3 4 5 6\n",
-            b"1 4 0 0\ndomain 16 1 2 3 4 5\n",
-            b"1 4 0 0\ndomain 1 1 2 3 4 5\ndomain 0 1 2 3 4 5\n",
-            b"1 4 0 0\ndomain 1 1 2 3 4 5\ndomain 1 1 2 3 4 5\n",
+            b"1 4 0 0\ndomain 0 1 2 3 4 5 6 7 8\n",
+            b"1 4 0 0\ndomain 16 1 2 3 4 5 6 7\n",
+            b"1 4 0 0\ndomain 1 1 2 3 4 5 6 7\ndomain 0 1 2 3 4 5 6 7\n",
+            b"1 4 0 0\ndomain 1 1 2 3 4 5 6 7\ndomain 1 1 2 3 4 5 6 7\n",
             b"1 4 0 0\n\n",
             b"1 4 0 0\r\n",
             b"1 4 0 99999999999999999999\n",
@@ -82,12 +88,16 @@ class Listings(unittest.TestCase):
     def test_where_it_is_not_whole(self):
         for data, what in (
             (b"", "it is empty"),
-            (case_a.LISTING[:-1], "it breaks off within line 12, 'domain 1 0 1 0 0 0'"),
+            (case_a.LISTING[:-1], "it breaks off within line 12, 'domain 1 0 1 0 0 0 1 0'"),
             (case_a.LISTING[:34], "it says 9 steps, and ends after the lines of 2"),
             (case_a.LISTING.replace(b"4 fill", b"4 fil"), "line 6 is '4 fil 2', and should be the answer to step 4"),
             (case_a.LISTING.replace(b"1 4 0 9", b"2 4 0 9"), "its first line is '2 4 0 9', and the file's numbers are '1 4 0 9'"),
-            (case_a.LISTING[:-19], "its domain lines are those of 0, and by its own answers 0, 1 have ways at the end"),
-            (case_a.LISTING + b"x\n", "line 13 is 'x', and should be a domain and its five counts, or the end"),
+            (case_a.LISTING[:-23], "its domain lines are those of 0, and by its own answers 0, 1 have ways at the end"),
+            (case_a.LISTING + b"x\n", "line 13 is 'x', and should be a domain and its seven counts, or the end"),
+            (
+                case_a.LISTING.replace(b"1 1 1 3 0\n", b"1 1 1\n"),
+                "line 11 is 'domain 0 1 3 1 1 1', and should be a domain and its seven counts, or the end",
+            ),
             (b"refused 10\n", "it is 'refused 10', and the file has the length, steps and sets of a trace file"),
         ):
             with self.assertRaises(MachineFailure, msg=data) as caught:
@@ -120,8 +130,9 @@ class Streams(unittest.TestCase):
     """The stepper's bytes."""
 
     def test_case_a(self):
-        blocks = stepper.parse(case_a.STREAM, tracefile.decode(case_a.FILE))
-        self.assertEqual(len(blocks), 10)
+        stream = stepper.parse(case_a.STREAM, tracefile.decode(case_a.FILE))
+        blocks = stream.blocks
+        self.assertEqual((len(blocks), stream.held), (10, (1, 1, *[0] * 14)))
         self.assertEqual(blocks[1].hit[:3], (3, 0, 0))
         self.assertEqual(blocks[2].fill[:3], (3, 12, 0))
         self.assertEqual([block.visited for block in blocks], [0, 0, 0, 2, 2, 2, 2, 2, 0, 1])
@@ -131,7 +142,7 @@ class Streams(unittest.TestCase):
         self.assertEqual(stepper.rows_at_end(blocks), {0: Row(5, 0, 6, (2, 1, 0, 0))})
 
     def test_core_switch(self):
-        blocks = stepper.parse(core_switch.STREAM, tracefile.decode(core_switch.FILE))
+        blocks = stepper.parse(core_switch.STREAM, tracefile.decode(core_switch.FILE)).blocks
         domains = [None, 1, 2, 0, None, 1, 1, None, 2, 2, None, 1, 2, 1, 2, 1, None, None, 2]
         self.assertEqual([block.domain for block in blocks], domains)
         none, first, second, split = (0, 0, 0), (1, 1, 1), (2, 2, 2), (1, 1, 2)
@@ -145,7 +156,7 @@ class Streams(unittest.TestCase):
         selectors = {core: (3 * core, 3 * core + 1, 3 * core + 2) for core in range(32)}
         data = block({15: (0xFFFF, 0xABCD)}, 0, {0: Row(0, 0, 0, (0, 0))}, records=selectors)
         self.assertEqual(len(data), 64 + 96 + 8 + 14 + 16)
-        (fresh,) = stepper.parse(data, Trace(1, 2, 0, ()))
+        (fresh,) = stepper.parse(data + held({}), Trace(1, 2, 0, ())).blocks
         self.assertEqual((fresh.hit[15], fresh.fill[15], fresh.hit[14]), (0xFFFF, 0xABCD, 0))
         self.assertEqual(fresh.records, tuple(selectors.values()))
 
@@ -153,13 +164,17 @@ class Streams(unittest.TestCase):
         trace = Trace(2, 2, 0, (Step(0, 1, 0),))
         rows = {0: Row(0, 0, 0, (0, 0)), 1: Row(0, 0, 0, (0, 0))}
         fresh, after = block({}, 0, rows), block({}, 1, {1: Row(1, 0, 0, (9, (1 << 64) - 1))}, domain=0)
-        self.assertEqual(len(stepper.parse(fresh + after, trace)), 2)
-        self.assertEqual(stepper.parse(fresh + block({}, visited=2, domain=0), trace)[1].visited, 2)
+        end = held({})
+        self.assertEqual(len(stepper.parse(fresh + after + end, trace).blocks), 2)
+        self.assertEqual(stepper.parse(fresh + block({}, visited=2, domain=0) + end, trace).blocks[1].visited, 2)
         for data, reason in (
             (b"", "breaks off within block 0 of 2"),
             (fresh, "breaks off within block 1 of 2"),
             (fresh + after[:-1], "breaks off within block 1 of 2"),
-            (fresh + after + b"\0", "goes on after the 2 blocks"),
+            (fresh + end, "breaks off within block 1 of 2"),
+        ):
+            self.assert_misfit(data, trace, reason)
+        for data, reason in (
             (after + fresh, "not those of 2 sets"),
             (fresh + block({}, 2), "not those of 2 sets"),
             (fresh + block({}, 0, {7: rows[0]}), "not those of 2 sets"),
@@ -169,7 +184,50 @@ class Streams(unittest.TestCase):
             (fresh + block({}, domain=1), "step 0, '0 load 0x0', was taken for domain 1, and should be for domain 0"),
             (block({}, 0, rows, domain=0) + after, "it has domain 0 before the first step"),
         ):
-            self.assert_misfit(data, trace, reason)
+            self.assert_misfit(data + end, trace, reason)
+
+    def test_the_order_of_lines_held(self):
+        rows = {number: Row(0, 0, 0, (0,) * 16) for number in range(256)}
+        fresh = block({domain: (0xFFFF, 0) for domain in range(16)}, 0, rows)
+        lines = {domain: 256 * domain + 15 - domain for domain in range(16)}
+        stream = stepper.parse(fresh + held(lines), Trace(256, 16, 0, ()))
+        self.assertEqual(stream.held, tuple(lines.values()))
+        stream = stepper.parse(fresh + bytes((*[0] * 60, 0x02, 0x01, 0, 0)), Trace(256, 16, 0, ()))
+        self.assertEqual(stream.held, (*[0] * 15, 0x0102))
+
+    def test_an_end_that_is_missing_cut_or_too_long(self):
+        trace, whole = tracefile.decode(case_a.FILE), case_a.STREAM[:-64]
+        self.assertEqual(whole + held({0: 1, 1: 1}), case_a.STREAM)
+        due = "and should have the 64 that say how many lines each domain holds"
+        for end, has in (
+            (b"", "0 bytes"),
+            (bytes(1), "1 byte"),
+            (bytes(60), "60 bytes"),
+            (held({})[:-1], "63 bytes"),
+            (held({}) + b"\0", "65 bytes"),
+            (held({}) * 2, "128 bytes"),
+            (case_a.STREAM, "2,204 bytes"),
+        ):
+            self.assert_misfit(whole + end, trace, f": after its 10 blocks it has {has}, {due}")
+        fresh = block({}, 0, {0: Row(0, 0, 0, (0, 0))})
+        self.assert_misfit(fresh, Trace(1, 2, 0, ()), f": after its 1 block it has 0 bytes, {due}")
+
+    def test_no_beginning_of_a_stream_is_whole(self):
+        trace = tracefile.decode(balance.FILE)
+        for size in range(len(balance.STREAM)):
+            self.assert_misfit(balance.STREAM[:size], trace, " it ")
+
+    def test_more_lines_than_there_is_room_for(self):
+        maps, rows = {0: (0b11, 0), 3: (0b10, 0b10)}, {number: Row(0, 0, 0, (0, 0)) for number in range(4)}
+        fresh, trace = block(maps, 0, rows), Trace(4, 2, 0, ())
+        self.assertEqual(stepper.parse(fresh + held({0: 8, 3: 4}), trace).held, (8, 0, 0, 4, *[0] * 12))
+        for lines, reason in (
+            ({0: 9}, "domain 0 holds 9 lines, and its hit map has room for 8"),
+            ({0: 8, 3: 5}, "domain 3 holds 5 lines, and its hit map has room for 4"),
+            ({1: 1}, "domain 1 holds 1 line, and its hit map has room for 0"),
+            ({3: (1 << 32) - 1}, "domain 3 holds 4,294,967,295 lines, and its hit map has room for 4"),
+        ):
+            self.assert_misfit(fresh + held(lines), trace, reason)
 
     def test_a_stream_of_before_the_cores(self):
         before = core_switch.STREAM[:64] + core_switch.STREAM[160:166]  # no records, and no domain
@@ -191,8 +249,8 @@ class Domains(unittest.TestCase):
     def domain(self, step: Step, said: int, **changed: tuple[int, int, int]) -> int | None:
         """Give the domain of a step after which a block says it; cores are changed by name, as `core31`."""
         after = {**self.HELD, **{int(name[4:]): record for name, record in changed.items()}}
-        stream = block({}, 0, self.ROWS, records=self.HELD) + block({}, domain=said, records=after)
-        return stepper.parse(stream, Trace(1, 2, 0, (step,)))[1].domain
+        stream = block({}, 0, self.ROWS, records=self.HELD) + block({}, domain=said, records=after) + held({})
+        return stepper.parse(stream, Trace(1, 2, 0, (step,))).blocks[1].domain
 
     def assert_refused(self, step: Step, said: int, reason: str, **changed: tuple[int, int, int]) -> None:
         with self.assertRaises(MachineFailure, msg=(step, said)) as caught:
@@ -248,6 +306,32 @@ class Words(unittest.TestCase):
             (Answer("policy", (2, 1)), "dropped 2 valid lines, 1 dirty"),
         ):
             self.assertIn(part, words.answer(answer))
+
+    def test_policy_changes(self):
+        remove, change = Step(3, 16, 0), Step(3, 16, 0x1_0003)
+        removed = "The domain is removed, and its counts are zero."
+        for step, fields, said in (
+            (change, (0, 0), "no valid line was dropped."),
+            (change, (1, 0), "dropped 1 valid line, 0 dirty. It counts as dropped for domain 3."),
+            (change, (2, 1), "dropped 2 valid lines, 1 dirty. They count as dropped for domain 3."),
+            (remove, (0, 0), f"no valid line was dropped. {removed}"),
+            (remove, (1, 1), f"dropped 1 valid line, 1 dirty. {removed}"),
+            (remove, (4096, 0), f"dropped 4,096 valid lines, 0 dirty. {removed}"),
+        ):
+            self.assertEqual(words.changed(Answer("policy", fields), step), f"Accepted; {said}")
+
+    def test_counts(self):
+        named = "hits 1, misses 2, evicted 3, written back 4, flushed 5, fills 6, dropped 7,000"
+        self.assertEqual(words.counts(Counts(1, 2, 3, 4, 5, 6, 7000)), named)
+
+    def test_balances(self):
+        for counts, lines, said in (
+            (Counts(1, 3, 1, 1, 1, 3, 0), 1, "fills 3 = evicted 1 + flushed 1 + dropped 0 + held 1"),
+            (Counts(9, 9, 2, 9, 3, 10, 4), 1, "fills 10 = evicted 2 + flushed 3 + dropped 4 + held 1"),
+            (Counts(0, 0, 0, 0, 0, 0, 0), 0, "fills 0 = evicted 0 + flushed 0 + dropped 0 + held 0"),
+            (Counts(0, 0, 0, 0, 0, 4096, 0), 4096, "fills 4,096 = evicted 0 + flushed 0 + dropped 0 + held 4,096"),
+        ):
+            self.assertEqual(words.balance(counts, lines), said)
 
     def test_answers_in_locked_ways(self):
         for answer in (Answer("hit", (3,)), Answer("flush", (3, 0)), Answer("flush", (3, 1))):
@@ -345,6 +429,11 @@ class Refusals(unittest.TestCase):
     def test_geometry(self):
         self.assertIn("rule 0 (tree), 1 (nru) or 2 (lru).", refusals.of_number(1))
 
+    def test_counts_that_are_full(self):
+        full = "One of the domain's seven counts is 4,294,967,295 and cannot rise, or the lines that a policy change would"
+        said = f"{full} drop would carry its count of dropped lines past that. {self.REMOVE}"
+        self.assertEqual(refusals.of_number(7), said)
+
     def test_how_many_sets(self):
         self.assertIn("a number of sets that is a power of two, from 1 to 256 in a trace file;", refusals.of_number(1))
         held = "a trace file holds at most 256 sets (calls of the proved library take up to 4,096)."
@@ -387,7 +476,7 @@ class Refusals(unittest.TestCase):
                 "The hit map of domain 1 is empty: it has no ways. "
                 f"Give it ways by a policy step first, or let {selector} of core 3 name a domain that has ways.",
             )
-            full = "One of the counts of domain 1 is 4,294,967,295 and cannot rise."
+            full = "One of the seven counts of domain 1 is 4,294,967,295 and cannot rise."
             self.assertEqual(refusals.of_step(7, step, 1), f"{full} {self.REMOVE}")
             self.assertEqual(
                 refusals.of_step(3, step, 77),

@@ -71,7 +71,7 @@ class CoresAndSelectors(unittest.TestCase):
         self.assertTrue(quoted.startswith("6 select 2 2 2\n"))
 
     def test_what_explain_says(self):
-        blocks = stepper.parse(core_switch.STREAM, self.TRACE)
+        blocks = stepper.parse(core_switch.STREAM, self.TRACE).blocks
         self.assertIn(f"of step 7: `{words.route(self.TRACE.steps[7], blocks[8].domain)}`", self.SECTION)
         changed = words.selected(blocks[9].records[3], blocks[10].records[3])
         self.assertIn(f"of step 9: `{changed}`", self.SECTION)
@@ -79,7 +79,7 @@ class CoresAndSelectors(unittest.TestCase):
     def test_what_is_struck_out(self):
         said = "`isolate` strikes out steps 7, 8 and 11 for domain 1, whose own is step 10."
         self.assertIn(said, " ".join(self.SECTION.split()))
-        domains = [block.domain for block in stepper.parse(core_switch.STREAM, self.TRACE)[1:]]
+        domains = [block.domain for block in stepper.parse(core_switch.STREAM, self.TRACE).blocks[1:]]
         self.assertEqual([place for place in range(6, 12) if place in core_switch.STRUCK_PLACES], [7, 8, 11])
         self.assertEqual(domains[10], 1)
 

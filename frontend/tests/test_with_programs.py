@@ -14,7 +14,7 @@ from pathlib import Path
 from frontend import cores, crates, helptext, listing, maps, programs, run, stepper, struck, tracefile, words
 from frontend.explain import Explainer
 from frontend.paint import Paint
-from frontend.tests import case_a, core_switch, locked_lines, true_lru
+from frontend.tests import balance, case_a, core_switch, locked_lines, true_lru
 from frontend.tests.helpers import call, knows_cores, needs_programs, random_trace, start
 from frontend.tracefile import Step, Trace
 
@@ -124,8 +124,8 @@ class TrueLru(unittest.TestCase):
         source = random.Random(12)
         for _ in range(12):
             trace = busy_trace(source, 100, (2,))
-            rows = [row for taken in stepper.parse(programs.stepper(tracefile.encode(trace)), trace) for row in taken.rows.values()]
-            for row in rows:
+            blocks = stepper.parse(programs.stepper(tracefile.encode(trace)), trace).blocks
+            for row in (row for block in blocks for row in block.rows.values()):
                 self.assertIsNotNone(words.order(row.word, list(range(trace.ways))), row)
 
 
@@ -173,6 +173,66 @@ class LockedLines(unittest.TestCase):
                 if found:
                     seen.add((rule, answer.word, locked))
         self.assertEqual(len(seen), 12)  # under each rule a hit and a flush, locked and not
+
+
+@needs_programs
+class Balance(unittest.TestCase):
+    """Lines in and lines out: in the example, and in any trace."""
+
+    EXAMPLE = programs.ROOT / "examples" / "balance.txt"
+
+    def test_example(self):
+        self.assertEqual(call("list", str(self.EXAMPLE)), (0, balance.LISTING, ""))
+        self.assertEqual(programs.stepper(balance.FILE), balance.STREAM)
+
+    def test_explain(self):
+        status, out, _ = call("explain", str(self.EXAMPLE))
+        last = "".join(f"  domain {domain}: {said}\n" for domain, said in balance.BALANCES.items())
+        self.assertEqual((status, out.decode().partition("\nLines in and lines out\n")[2]), (0, last))
+
+    def test_balances_are_those_that_the_text_says(self):
+        lines = [line for line in self.EXAMPLE.read_text(encoding="ascii").splitlines() if line[:1].isdigit()]
+        found = {place: re.search("fills [0-9]+ = .*", line) for place, line in enumerate(lines)}
+        said = {place: match[0] for place, match in found.items() if match}
+        self.assertEqual(list(said), [3, 5, 6, 7, 8, 9, 11, 12])
+        whole = tracefile.decode(balance.FILE)
+        for place, due in said.items():
+            taken = run.take("a beginning", tracefile.encode(replace(whole, steps=whole.steps[: place + 1])))
+            domain = whole.steps[place].named
+            self.assertEqual(words.balance(taken.listing.counts[domain], taken.stream.held[domain]), due, place)
+
+    def test_lines_held_are_those_of_the_rows(self):
+        source, seen = random.Random(19), set()
+        for _ in range(12):
+            taken = run.take("random", tracefile.encode(busy_trace(source, 200)))
+            rows = stepper.rows_at_end(taken.blocks).values()
+            due = tuple(sum(len(maps.members(row.valid & hit)) for row in rows) for hit in taken.blocks[-1].hit)
+            self.assertEqual(taken.stream.held, due)
+            seen.update(due)
+        self.assertGreater(len(seen), 3)
+
+    def tally(self, taken: run.Run, domain: int) -> dict[str, int]:
+        """Count a domain's lines in and lines out by the answers to its steps since it was last removed."""
+        lines = {"fill": 0, "evict": 0, "flush": 0, "policy": 0}
+        for place, (step, answer) in enumerate(zip(taken.trace.steps, taken.listing.answers)):
+            if taken.domain(place) == domain and answer.word in lines:
+                lines[answer.word] += answer.fields[0] if answer.word == "policy" else 1
+                if answer.word == "policy" and step.argument == 0:
+                    lines = dict.fromkeys(lines, 0)
+        return lines
+
+    def test_counts_are_those_of_the_answers(self):
+        source, dropped, removed = random.Random(20), 0, 0
+        for _ in range(12):
+            taken = run.take("random", tracefile.encode(busy_trace(source, 300)))
+            accepted = (step for step, answer in zip(taken.trace.steps, taken.listing.answers) if answer.word == "policy")
+            removed += sum(step.argument == 0 for step in accepted)
+            for domain, counts in taken.listing.counts.items():
+                due = self.tally(taken, domain)
+                self.assertEqual(counts.fills, due["fill"] + due["evict"])
+                self.assertEqual((counts.evicted, counts.flushed, counts.dropped), (due["evict"], due["flush"], due["policy"]))
+                dropped += counts.dropped
+        self.assertGreater(min(dropped, removed), 10)
 
 
 @unittest.skipIf(programs.amiss("lister"), "target/bin/lister is missing or not up to date")

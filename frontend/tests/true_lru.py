@@ -4,7 +4,7 @@ from __future__ import annotations
 import struct
 
 from frontend.stepper import Row
-from frontend.tests.helpers import block
+from frontend.tests.helpers import block, held
 
 _CODES = bytes((0, 16, 1, 16, 0, 1, 0, 1, 0, 1, 0, 1, 1, 2, 0, 1, 1, 1, 0, 16, 0, 1, 0, 16, 0, 1))
 _ARGUMENTS = (0x0007_0007, 0x0008_0008, 0, 64, 128, 0, 0, 192, 0, 0x0001_0007, 192, 0x0007_0007, 256)
@@ -25,8 +25,8 @@ LISTING = b"""\
 10 hit 1
 11 policy 0 0
 12 evict 1 3 0
-domain 0 2 5 2 0 0
-domain 1 1 1 0 0 0
+domain 0 2 5 2 0 0 5 0
+domain 1 1 1 0 0 0 1 0
 """
 
 _FIRST = {0: (7, 7)}
@@ -53,6 +53,7 @@ STREAM = b"".join(
         block(_LOCKED, 0, _MOVED, 2, 0),
         block(_BOTH, 0, _MOVED, 0, 0),
         block(_BOTH, 0, {0: Row(0b1111, 0b1000, 0x2031, (0, 4, 2, 0))}, 3, 0),
+        held({0: 3, 1: 1}),
     )
 )
 
@@ -70,8 +71,8 @@ STRUCK_LISTING = b"""\
 8 hit 1
 9 policy 0 0
 10 evict 1 3 0
-domain 0 2 5 2 0 0
-domain 1 0 0 0 0 0
+domain 0 2 5 2 0 0 5 0
+domain 1 0 0 0 0 0 0 0
 """
 _STRUCK_MOVED = {0: Row(0b0111, 0, 0x1230, (0, 3, 2, 0))}
 STRUCK_STREAM = b"".join(
@@ -82,6 +83,7 @@ STRUCK_STREAM = b"".join(
         block(_LOCKED, 0, _STRUCK_MOVED, 2, 0),
         block(_BOTH, 0, _STRUCK_MOVED, 0, 0),
         block(_BOTH, 0, {0: Row(0b0111, 0, 0x2301, (0, 4, 2, 0))}, 3, 0),
+        held({0: 3}),
     )
 )
 WORDS = 0x2031, 0x2301  # at the end of either run
