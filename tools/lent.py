@@ -86,10 +86,10 @@ def behind(some_trace_file):
 
 
 def short(rng, _index):
-    """A file that ends before its trace file, or in it; or a trace file with nothing before it."""
+    """A file that ends before its trace file, or in it."""
     data = of_maps(any_maps)(rng, 0)
     length = rng.choice([rng.randrange(len(data)), rng.randrange(FRONT), FRONT - 1, FRONT, FRONT + rng.randrange(9)])
-    return data[:length] if rng.random() < 0.8 else data[FRONT:]
+    return data[:length]
 
 
 def refused(rng, index):
