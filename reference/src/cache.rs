@@ -48,6 +48,12 @@ impl Cache {
         &mut self.domains
     }
 
+    /// By document 02, how many are "the lines now valid in the domain's hit map", over all sets.
+    pub fn held(&self, domain: usize) -> u32 {
+        let hit_map = self.domains.policy(domain).hit_map;
+        self.valid.iter().map(|valid| (valid & hit_map).count_ones()).sum()
+    }
+
     /// Does one step, or turns it down: "The answer is the number alone and nothing else moves."
     pub fn step(&mut self, step: &Step) -> Answer {
         self.step_and_visits(step).0

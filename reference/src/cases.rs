@@ -113,12 +113,13 @@ domain 1 0 1 0 0 0 1 0
 }
 
 /// Four misses in maps of two ways; then a flush of the map's second way, a refused step and a hit in its first way.
-/// Beside the ways visited is the domain.
+/// Beside the ways visited is the domain. Of domain 0's three lines one was evicted and one flushed.
 #[test]
 fn case_a_the_ways_visited() {
     let text = visits::of_file(&file(1, 4, 0, &steps_of_case_a()));
     let numbers: Vec<&str> = text.lines().collect();
-    assert_eq!(numbers, ["0 0", "0 1", "2 0", "2 0", "2 1", "2 0", "2 0", "0 2", "1 0"]);
+    assert_eq!(numbers[..9], ["0 0", "0 1", "2 0", "2 0", "2 1", "2 0", "2 0", "0 2", "1 0"]);
+    assert_eq!(numbers[9..], ["held 1 1 0 0 0 0 0 0 0 0 0 0 0 0 0 0"]);
 }
 
 #[test]
@@ -356,14 +357,16 @@ fn touches_outside_the_map_of_the_rules_called_alone() {
 }
 
 /// Domain 15 has ways 9 to 11 and 13 of sixteen: four without a hit, the first two up to way 10. A file without a step
-/// has no number, and a refused one has none either.
+/// has no such number, and a refused one has none either. Of two lines one is flushed.
 #[test]
 fn the_ways_visited_by_a_file() {
     let load = |address| (15, LOAD, address);
     let steps =
         [policy(15, 0x2e00), load(0), load(4096), load(0), load(4096), (15, FLUSH, 4096), (15, 4, 0), (0, LOAD, 0)];
-    assert_eq!(visits::of_file(&file(64, 16, 2, &steps)), "0 15\n4 15\n4 15\n1 15\n2 15\n2 15\n0 15\n0 0\n");
-    assert_eq!(visits::of_file(&file(64, 16, 2, &[])), "");
+    let held = |lines: u32| format!("held{} {lines}\n", " 0".repeat(15));
+    let due = format!("0 15\n4 15\n4 15\n1 15\n2 15\n2 15\n0 15\n0 0\n{}", held(1));
+    assert_eq!(visits::of_file(&file(64, 16, 2, &steps)), due);
+    assert_eq!(visits::of_file(&file(64, 16, 2, &[])), held(0));
     assert_eq!(visits::of_file(&file(64, 16, 3, &steps)), "refused\n");
     assert_eq!(visits::of_file(&file(512, 16, 2, &steps)), "refused\n");
     assert_eq!(visits::of_file(&[]), "refused\n");
@@ -454,7 +457,8 @@ fn without_a_list_of_cores() {
     assert_eq!(call(1, 4, 0, &steps_of_cores()), format!("1 4 0 26\n{}{counts}", lines.concat()));
 }
 
-/// The ways visited and the domain, 65535 for a selector write and for core 32.
+/// The ways visited and the domain, 65535 for a selector write and for core 32. Of domain 0's five lines two were
+/// evicted and one flushed.
 #[test]
 fn the_ways_visited_through_cores() {
     let text = visits::of_file(&file(1, 4, 0, &steps_of_cores()));
@@ -462,7 +466,8 @@ fn the_ways_visited_through_cores() {
     assert_eq!(lines[..9], ["0 0", "0 1", "2 0", "0 65535", "2 1", "2 0", "1 1", "2 1", "0 65535"]);
     assert_eq!(lines[9..16], ["2 0", "1 1", "1 0", "2 0", "2 0", "2 0", "2 0"]);
     assert_eq!(lines[16..20], ["0 65535", "0 65535", "0 65535", "0 15"]);
-    assert_eq!(lines[20..], ["0 65535", "0 65535", "0 65535", "0 15", "0 20", "0 5"]);
+    assert_eq!(lines[20..26], ["0 65535", "0 65535", "0 65535", "0 15", "0 20", "0 5"]);
+    assert_eq!(lines[26..], ["held 2 1 0 0 0 0 0 0 0 0 0 0 0 0 0 0"]);
 }
 
 /// The places of the steps that each domain's struck-out list does not have. The geometry does not matter, unless 10

@@ -4,12 +4,14 @@
 //! visited, and the domain that the cache took it for. A step without a lookup has 0 ways: a policy change, a selector
 //! write, and a step that is turned down. The domain is the one that the step names or, through a core, the one that
 //! the selector names; of a selector write, and of a core that is not in the list, it is 65535, for none. 32 fresh
-//! records are lent, as the lister lends them.
+//! records are lent, as the lister lends them. The last line is `held` and how many lines each of the sixteen domains
+//! holds then.
 
 use std::fmt::Write;
 
 use crate::cache::Cache;
 use crate::cores;
+use crate::domains::DOMAINS;
 use crate::trace::Trace;
 
 /// In place of a domain's number, where a step is none of the cache.
@@ -34,5 +36,10 @@ fn of_trace(trace: &Trace) -> String {
         let (_, visited) = cores::step_and_visits(&mut cache, &mut cores, step);
         writeln!(text, "{visited} {domain}").expect(WRITTEN);
     }
+    text.push_str("held");
+    for domain in 0..DOMAINS {
+        write!(text, " {}", cache.held(domain)).expect(WRITTEN);
+    }
+    text.push('\n');
     text
 }

@@ -1,8 +1,7 @@
 // Calls on lent records and maps. They stand before the trace file, the lowest byte first: the sixteen domains' records, hit map and fill map (2 bytes
-// each) and the seven counts (4 each); then 256 valid maps and 256 dirty maps (2 each), of which as many are lent as there are sets. No trace file with
-// these 1,536 bytes before it is as long as a trace file may be. All that is read is 40,968 bytes, so that it may have 3,942 steps. Tags and replacement
-// words are lent zero. At the end there is a line for every domain: its number, both maps as they are stored, and its counts. A refused file gives its
-// number.
+// each) and the seven counts (4 each); then 256 valid maps and 256 dirty maps (2 each), of which as many are lent as there are sets. With these 1,536
+// bytes before it no trace file has a trace file's length. All that is read is 40,968 bytes, so that it may have 3,942 steps. Tags and replacement words
+// are lent zero. At the end there is a line for every domain: its number, both maps as they are stored, and its counts. A refused file gives its number.
 use crate::Shown;
 use domains::Counts;
 use domains::Domain;
