@@ -11,6 +11,7 @@
 //! [`trace`], the core selectors, [`cores`], what is struck out, in [`purge`], the counts of fills and drops, in
 //! [`cache`], their number 7, in [`refusals`], and [`lent`] were written without a look at their proved code. [`rules`]
 //! and `HandOver` in [`replacement`] were not: the source of the crate replacement had been read, for its public calls.
+//! Nor was `held` in [`cache`]: whoever wrote it knew how the proved programs count the lines held.
 //! Nothing here is proved: where two programs differ, these documents decide which of them is wrong.
 //!
 //! Each module is one part of document 01, or of document 02 where it says so, and quotes the sentence that it follows.
