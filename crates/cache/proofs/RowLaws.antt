@@ -11,7 +11,7 @@ use Rattle.row.specs.declared.Done.{Done}
 use Rattle.row.proofs.ToldLaws.{told-injective}
 use Rattle.steps.specs.Tables.{rowAt, putRow}
 use Rattle.steps.specs.Step.{tablesOf}
-use Rattle.cache.specs.Inside.{RowWork, onRow}
+use Rattle.steps.specs.Deed.{RowWork, onRow}
 
 -- ---- the work on a row, lent from `start` up to `stop`
 

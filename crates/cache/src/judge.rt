@@ -8,7 +8,7 @@ ghost use Prim.Native.Nat.{_≤_};
 ghost use lib.ListN.{length};
 ghost use Rattle.geometry.specs.Geometry.{maxSets};
 ghost use Rattle.domains.specs.Domains.{overflows};
-ghost use Rattle.cache.specs.Inside.{dropsAmong};
+ghost use Rattle.steps.specs.Deed.{dropsAmong};
 
 // The lines that the change would drop, as far as the verdict depends on them. They are counted only where the count of dropped lines is so near the
 // largest that they could carry it past; elsewhere 0 does as well.

@@ -4,48 +4,14 @@ use command::Answer;
 use command::LineUse;
 use geometry::Geometry;
 use policy::Maps;
-use row::Done;
 use row::Lines;
 use sweep::Drops;
 use sweep::Sweep;
-ghost use mathlib.Core.Path.{_≡_};
 ghost use Prim.Native.Nat.{_<_};
-ghost use Rattle.row.specs.Calls.{rowOf, result, told};
 ghost use Rattle.sweep.specs.Sweep.{sweepBy};
 ghost use Rattle.steps.specs.Step.{tablesOf};
 ghost use Rattle.steps.specs.Inside.{Shaped};
-ghost use Rattle.cache.specs.Inside.{flushes as flushesLine, stores as storesLine, workOf, RowWork, onRow, workAt, AllSwept};
-
-// Whether a line is flushed, and whether it is stored to.
-fn flushes(usage: LineUse) -> bool
-    ensures { λ r. ⌜ r ≡ flushesLine usage ⌝ }
-{
-    match usage {
-        LineUse::Load => false,
-        LineUse::Store => false,
-        LineUse::Flush => true,
-    }
-}
-
-fn stores(usage: LineUse) -> bool
-    ensures { λ r. ⌜ r ≡ storesLine usage ⌝ }
-{
-    match usage {
-        LineUse::Load => false,
-        LineUse::Store => true,
-        LineUse::Flush => false,
-    }
-}
-
-// An access or a flush on a row.
-fn on_row(tags: &mut [u64], lines: Lines, rule: usize, maps: Maps, usage: LineUse, tag: u64) -> Done
-    ensures { λ r. ⌜ told (result r (now (tags .exit))) ≡ told (workOf usage rule maps tag (rowOf (now (tags .entry)) lines)) ⌝ }
-{
-    if flushes(usage) {
-        return row::flush(tags, lines, maps, tag);
-    }
-    row::access(tags, lines, rule, maps, tag, stores(usage))
-}
+ghost use Rattle.steps.specs.Deed.{RowWork, onRow, workAt, AllSwept};
 
 // An access or a flush in the tables.
 pub fn use_set(
@@ -73,7 +39,7 @@ pub fn use_set(
         dirty: dirty[set],
         word: words[set],
     };
-    let done = on_row(
+    let done = row::use_line(
         &mut tags[start..stop],
         lines,
         g.rule,

@@ -11,7 +11,8 @@ use policy::Maps;
 ghost use mathlib.Core.Path.{_≡_};
 ghost use Rattle.steps.specs.Step.{tablesOf};
 ghost use Rattle.steps.specs.Inside.{Shaped};
-ghost use Rattle.cache.specs.Inside.{deedOf, lineDeed, policyDeed};
+ghost use Rattle.steps.specs.Deed.{lineDeed, policyDeed};
+ghost use Rattle.cache.specs.Inside.{deedOf};
 
 // An access or a flush.
 pub fn line(

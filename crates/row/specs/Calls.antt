@@ -1,6 +1,6 @@
 -- What the public calls give, for rows of any length and maps of any content: the number of ways is the row's length, and a length or a
 -- rule outside the limits is refused by 1 with nothing changed.
-use mathlib.Core.Bool.{Bool, cond}
+use mathlib.Core.Bool.{Bool, true, false, cond}
 use mathlib.Core.List.{List}
 use Prim.Native.Nat.{ℕ}
 use Rattle.replacement.specs.Rule.{ruleOf}
@@ -14,6 +14,8 @@ use Rattle.row.specs.declared.Done.{Done}
 use Rattle.command.specs.Answer.{answerOf}
 use Rattle.command.specs.declared.Answer.{Answer}
 use Rattle.command.specs.declared.Answer.the-variants.{Hit, Absent, Refused}
+use Rattle.command.specs.declared.LineUse.{LineUse}
+use Rattle.command.specs.declared.LineUse.the-variants.{Load, Store, Flush}
 
 -- A set's row from its lent tags and the rest by value.
 abbrev pub rowOf : List ℕ → Lines → Row
@@ -49,3 +51,18 @@ accessOf rule p tag store r =
 
 unfoldable pub flushOf : Maps → ℕ → Row → Effect
 flushOf p tag r = cond (isWays (ways r)) (flush (asRead (ways r) p) tag r) (refused 1 r)
+
+-- Whether a step flushes its line, and whether it stores.
+abbrev pub flushes : LineUse → Bool
+flushes Load = false
+flushes Store = false
+flushes Flush = true
+
+abbrev pub stores : LineUse → Bool
+stores Load = false
+stores Store = true
+stores Flush = false
+
+-- What an access or a flush does to a row.
+unfoldable pub useOf : LineUse → ℕ → Maps → ℕ → Row → Effect
+useOf u rule p tag r = cond (flushes u) (flushOf p tag r) (accessOf rule p tag (stores u) r)

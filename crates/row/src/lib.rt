@@ -1,13 +1,15 @@
 // The work on one set: its tags as a lent slice, whose length is the number of ways, and its maps and replacement word by value.
 mod rules;
 mod update;
+mod uses;
 mod work;
 
 use command::Answer;
+use command::LineUse;
 use policy::Maps;
 ghost use mathlib.Core.Path.{_≡_};
 ghost use Rattle.command.specs.Answer.{answerOf};
-ghost use Rattle.row.specs.Calls.{rowOf, result, told, lookupOf, visitedOf, accessOf, flushOf};
+ghost use Rattle.row.specs.Calls.{rowOf, result, told, lookupOf, visitedOf, accessOf, flushOf, useOf};
 
 // A set's valid map, dirty map and replacement word.
 pub struct Lines {
@@ -118,4 +120,21 @@ pub fn flush(tags: &[u64], lines: Lines, maps: Maps, tag: u64) -> Done
         answer: Answer::Absent,
         lines,
     }
+}
+
+// An access or a flush.
+pub fn use_line(
+    tags: &mut [u64],
+    lines: Lines,
+    rule: usize,
+    maps: Maps,
+    usage: LineUse,
+    tag: u64,
+) -> Done
+    ensures { λ r. ⌜ told (result r (now (tags .exit))) ≡ told (useOf usage rule maps tag (rowOf (now (tags .entry)) lines)) ⌝ }
+{
+    if uses::flushes(usage) {
+        return flush(tags, lines, maps, tag);
+    }
+    access(tags, lines, rule, maps, tag, uses::stores(usage))
 }

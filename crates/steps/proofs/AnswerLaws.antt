@@ -1,12 +1,12 @@
 -- What a step can answer.
-use mathlib.Core.Path.{_≡_}
+use mathlib.Core.Path.{_≡_, refl, sym, ap, _∙_}
 use mathlib.Core.Bool.{Bool, true, false, _&&_}
 use mathlib.Core.List.{List, [], _∷_}
 use Prim.Native.Nat.{ℕ, _*_, _≤_}
 use native.Mathlib.Nat.{le-trans, le-of-eq, mul-comm}
 use native.Mathlib.Omega.{arith}
 use lib.Dec.{eqb}
-use lib.ListN.{length, drop, length-take}
+use lib.ListN.{length, getD, drop, length-take}
 use borrow.Author.Tests.{eqb-false}
 use Rattle.waymap.specs.Bits.{bit, any}
 use Rattle.waymap.proofs.Booleans.{cases}
@@ -18,6 +18,7 @@ use Rattle.policy.specs.Policy.{asRead, newMaps}
 use Rattle.policy.specs.declared.Maps.{Maps}
 use Rattle.sweep.specs.Clean.{moved, dropped, droppedDirty}
 use Rattle.command.specs.Answer.{answerOf}
+use Rattle.command.specs.declared.Answer.the-variants.{Refused}
 use Rattle.command.specs.Command.{Command}
 use Rattle.command.specs.Kind.{Kind, access, flush, policy, unknown, kindOf}
 use Rattle.domains.specs.Domains.{domainOf, policies}
@@ -27,46 +28,62 @@ use Rattle.geometry.specs.Inside.{Limited}
 use Rattle.geometry.specs.declared.Geometry.{Geometry}
 use Rattle.geometry.proofs.GeometryLaws.{rows-bound}
 use Rattle.steps.specs.Tables.{Tables, lengths, rowAt, total}
-use Rattle.steps.specs.Step.{State, onSet, rowEffect, useLine, droppedBy, changePolicy, dropsOf, stepBy, decided, step}
+use Rattle.steps.specs.Step.{State, Outcome, answers, onSet, rowEffect, useLine, droppedBy, changePolicy, dropsOf, stepBy, decided, step}
 use Rattle.steps.specs.Run.{stepOn}
 use Rattle.steps.proofs.TotalLaws.{total-le}
 use Rattle.steps.proofs.DropLaws.{row-lines-most}
 
 -- ---- no refusal has number 0
 
--- neither an access nor a flush answers a refusal
-module _ (p : Maps) (tag : ℕ) (r : Row) (n : ℕ) where
-  access-done : (R : Rule) (store : Bool) → answerOf (Row.access R p tag store r .answer) ≡ 7 ∷ n ∷ [] → ⊥
+-- neither an access nor a flush answers word 7
+module _ (p : Maps) (tag : ℕ) (r : Row) where
+  access-done : (R : Rule) (store : Bool) → getD (answerOf (Row.access R p tag store r .answer)) 0 0 ≡ 7 → ⊥
   unfolding Row.access Row.accessBy Row.hitAt Row.fillAt Row.evictAt
   access-done R store = by (Row.isHit r (p .hit) tag) (any (length (r .tags)) (bit (p .fill))) (any (length (r .tags)) (Row.vacant r (p .fill)))
     where
-      by : (hit some room : Bool) → answerOf (Row.accessBy hit some room R p tag store r .answer) ≡ 7 ∷ n ∷ [] → ⊥
-      by true some room e = let z : _≡_ {A = ℕ} 0 7 = cc in omega arith
-      by false false room e = let z : _≡_ {A = ℕ} 3 7 = cc in omega arith
-      by false true true e = let z : _≡_ {A = ℕ} 1 7 = cc in omega arith
-      by false true false e = let z : _≡_ {A = ℕ} 2 7 = cc in omega arith
+      by : (hit some room : Bool) → getD (answerOf (Row.accessBy hit some room R p tag store r .answer)) 0 0 ≡ 7 → ⊥
+      by true some room e = omega (arith, e)
+      by false false room e = omega (arith, e)
+      by false true true e = omega (arith, e)
+      by false true false e = omega (arith, e)
 
-  flush-done : answerOf (Row.flush p tag r .answer) ≡ 7 ∷ n ∷ [] → ⊥
+  flush-done : getD (answerOf (Row.flush p tag r .answer)) 0 0 ≡ 7 → ⊥
   unfolding Row.flush Row.flushAt
   flush-done = by (Row.isHit r (p .hit) tag)
     where
-      by : (hit : Bool) → answerOf (Row.flushAt hit (Row.hitWay r (p .hit) tag) r .answer) ≡ 7 ∷ n ∷ [] → ⊥
-      by true e = let z : _≡_ {A = ℕ} 4 7 = cc in omega arith
-      by false e = let z : _≡_ {A = ℕ} 5 7 = cc in omega arith
+      by : (hit : Bool) → getD (answerOf (Row.flushAt hit (Row.hitWay r (p .hit) tag) r .answer)) 0 0 ≡ 7 → ⊥
+      by true e = omega (arith, e)
+      by false e = omega (arith, e)
 
--- of the steps that no verdict turns down only unknown kinds answer a refusal, and that is 4
-done-by : (y : Kind) (g : Geometry) (d arg : ℕ) (s : State) (n : ℕ) → stepBy y g d arg s .answer ≡ 7 ∷ n ∷ [] → n ≡ 4
+-- of the steps that no verdict turns down only unknown kinds answer it, with 4, and they move nothing
+done-by : (y : Kind) (g : Geometry) (d arg : ℕ) (s : State) → getD (stepBy y g d arg s .answer) 0 0 ≡ 7
+    → stepBy y g d arg s ≡ answers (Refused 4) s
 unfolding stepBy useLine onSet rowEffect changePolicy
-done-by (access store) g d arg s n e = absurd (access-done _ _ _ n _ store e)
-done-by flush g d arg s n e = absurd (flush-done _ _ _ n e)
-done-by policy g d arg s n e = let z : _≡_ {A = ℕ} 6 7 = cc in absurd (omega arith)
-done-by unknown g d arg s n e = cc
+done-by (access store) g d arg s e = absurd (access-done _ _ _ _ store e)
+done-by flush g d arg s e = absurd (flush-done _ _ _ e)
+done-by policy g d arg s e = absurd (omega (arith, e))
+done-by unknown g d arg s e = refl
+
+-- a step that answers word 7 leaves the state
+pub refused-stays : (g : Geometry) (d kind arg : ℕ) (s : State) → getD (step g d kind arg s .answer) 0 0 ≡ 7 → step g d kind arg s .state ≡ s
+unfolding step decided
+refused-stays g d kind arg s e =
+    cases (eqb number 0)
+    (λ t. rw t (ap (λ (o : Outcome). o .state) (done-by (kindOf kind) g d arg s (rw t at e))))
+    (λ t. rw t)
+  where
+    number : ℕ
+    number =
+        refusal g (lengths (s .tables)) (policies (g .ways) (s .domains)) (domainOf (s .domains) d .counts) (dropsOf g d arg s) d kind arg
 
 pub no-refusal-zero : (g : Geometry) (c : Command) (s : State) → stepOn g c s .answer ≡ 7 ∷ 0 ∷ [] → ⊥
 unfolding step decided
 no-refusal-zero g c s e =
     cases (eqb number 0)
-    (λ t. let z = done-by (kindOf (c .kind)) g (c .domain) (c .argument) s 0 (rw t at e) in omega arith)
+    (λ t. let done = rw t at e in
+    let four = done-by (kindOf (c .kind)) g (c .domain) (c .argument) s (ap (λ (l : List ℕ). getD l 0 0) done) in
+    let z = ap (λ (l : List ℕ). getD l 1 0) (sym (ap (λ (o : Outcome). o .answer) four) ∙ done) in
+    omega (arith, z))
     (λ t. let z : number ≡ 0 = cc (rw t at e) in eqb-false number 0 t z)
   where
     number : ℕ

@@ -7,4 +7,8 @@ pub mod RunLaws
 pub mod WordLaws
 pub mod AnswerLaws
 pub mod DropLaws
+pub mod SweepLaws
+pub mod JudgeLaws
+pub mod DeedLaws
+pub mod StepLaws
 pub mod Computing

@@ -4,3 +4,4 @@ pub mod Step
 pub mod Run
 pub mod Fresh
 pub mod Inside
+pub mod Deed

@@ -5,6 +5,7 @@ mod tags;
 
 use command::Answer;
 pub use number::lines_among;
+pub use number::lines_in;
 use policy::Maps;
 use replacement::Change;
 use row::Done;

@@ -6,7 +6,7 @@ ghost use Rattle.waymap.specs.Bits.{bit, count};
 ghost use Rattle.sweep.specs.Number.{linesAmong};
 
 // Those of one set.
-fn lines_in(valid: u16, map: u16) -> usize
+pub fn lines_in(valid: u16, map: u16) -> usize
     ensures { λ r. ⌜ r ≡ count 16 (λ (w : ℕ). bit map w && bit valid w) ⌝ }
 {
     waymap::count_ways(map & valid)

@@ -1,19 +1,13 @@
 -- The lines of a listing, piece after piece.
 use mathlib.Core.Path.{_≡_, refl, sym, ap, _∙_}
 use mathlib.Core.List.{List, [], _∷_, _++_, map, append-assoc}
-use mathlib.Core.Logic.{_⊎_, inl, inr}
 use Prim.Native.Nat.{ℕ, suc, _+_, _-_, _*_, _≤_, _<_}
 use native.Mathlib.Omega.{arith}
 use lib.Dec.{T, leb, lit≤}
 use lib.ListN.{length, take, length-take}
 use borrow.Author.Tests.{eq-eqb, ne-eqb}
-use denote.Enum.Declared.{tagOf}
-use Rattle.command.proofs.Answer.{the-type}
-use Rattle.command.specs.Answer.{answerOf}
 use Rattle.policy.specs.Policy.{asRead}
 use Rattle.policy.specs.declared.Maps.{Maps}
-use Rattle.command.specs.declared.Answer.{Answer}
-use Rattle.command.specs.declared.Answer.the-variants.{Hit, Fill, Evict, Pass, Flush, Absent, Policy, Refused}
 use Rattle.domains.specs.Domains.{domainOf}
 use Rattle.domains.specs.declared.Domain.{Domain}
 use Rattle.domains.specs.declared.Domains.{Domains}
@@ -48,23 +42,6 @@ said-line place w s e = e ∙ ap (λ (fields : List (List ℕ)). append (line (d
 pub says : {p : Phrase} {fields : List (List ℕ)} → T (leb (p .1) (length (p .0))) → T (leb (p .1) 7) → T (leb (p .5) 3)
     → take (p .1) (p .0) ∷ map decimal (take (p .5) (numbersOf p)) ≡ fields → Says p fields
 says inside short few is = record { is = is; inside = lit≤ inside; short = lit≤ short; few = lit≤ few }
-
--- An answer without fields is its word's number alone.
-pub bare : (a : Answer) (n : ℕ) → tagOf the-type a ≡ n → (n ≡ 3) ⊎ (n ≡ 5) → answerOf a ≡ n ∷ []
-bare Pass n e h = ap (λ (k : ℕ). k ∷ []) e
-bare Absent n e h = ap (λ (k : ℕ). k ∷ []) e
-bare (Hit w) n e (inl h) = absurd (omega arith)
-bare (Hit w) n e (inr h) = absurd (omega arith)
-bare (Fill w) n e (inl h) = absurd (omega arith)
-bare (Fill w) n e (inr h) = absurd (omega arith)
-bare (Evict w tag dirty) n e (inl h) = absurd (omega arith)
-bare (Evict w tag dirty) n e (inr h) = absurd (omega arith)
-bare (Flush w dirty) n e (inl h) = absurd (omega arith)
-bare (Flush w dirty) n e (inr h) = absurd (omega arith)
-bare (Policy dropped dirty) n e (inl h) = absurd (omega arith)
-bare (Policy dropped dirty) n e (inr h) = absurd (omega arith)
-bare (Refused m) n e (inl h) = absurd (omega arith)
-bare (Refused m) n e (inr h) = absurd (omega arith)
 
 -- ---- the domains' lines
 

@@ -1,4 +1,5 @@
 -- `cache::step` meets its contract.
+use mathlib.Core.Path.{ap, _∙_}
 use Prim.Native.Nat.{ℕ}
 use native.Mathlib.Omega.{arith}
 use Rattle.domains.specs.Domains.{domainOf, policies}
@@ -8,7 +9,11 @@ use Rattle.steps.specs.Tables.{Tables, lengths}
 use Rattle.steps.specs.Step.{dropsOf, tablesOf}
 use Rattle.steps.specs.Inside.{Shaped}
 use Rattle.steps.proofs.SetLaws.{shaped}
-use Rattle.cache.proofs.StepLaws.{step-refused, step-line, step-policy, step-unknown}
+use Rattle.steps.specs.Deed.{putDeed}
+use Rattle.steps.proofs.StepLaws.{step-refused, step-line, step-policy, step-unknown}
+use Rattle.cache.specs.Calls.{outcome}
+use Rattle.cache.specs.Inside.{deedOf}
+use Rattle.cache.specs.declared.Stepped.{Stepped}
 use borrow.Author.Needs.{needs}
 use Rattle.cache.proofs.step.Statement.{statement}
 use Rattle.cache.proofs.step.Tie as tie
@@ -37,11 +42,12 @@ refused-requires c κs = search needs
 returns : tie.Need-returns
 returns c =
     let entry = c .before .before .before .before .before .before .before in
-    step-refused (entry .args .g) (entry .args .domain) (entry .args .kind) (entry .args .argument) (lent entry) (entry .args .t6)
+    ap (λ (x : Stepped). outcome x (lent entry)) (c .refused .ensures)
+    ∙ step-refused (entry .args .g) (entry .args .domain) (entry .args .kind) (entry .args .argument) (lent entry) (entry .args .t6)
     (by-sizes (entry .args .g) (lengths (lent entry)) (policies (entry .args .g .ways) (entry .args .t6))
     (domainOf (entry .args .t6) (entry .args .domain) .counts) (drops entry)
     (entry .args .domain) (entry .args .kind) (entry .args .argument) (c .before .before .sizes .ensures) (c .before .if1 .taken))
-    (c .before .if1 .taken) (c .refused .ensures)
+    (c .before .if1 .taken)
 
 refused-requires-2 : tie.Need-refused-requires-2
 refused-requires-2 c κs = search needs
@@ -49,12 +55,13 @@ refused-requires-2 c κs = search needs
 returns-2 : tie.Need-returns-2
 returns-2 c =
     let entry = c .before .before .before .before .before .before .before .before in
-    step-refused (entry .args .g) (entry .args .domain) (entry .args .kind) (entry .args .argument) (lent entry) (entry .args .t6)
+    ap (λ (x : Stepped). outcome x (lent entry)) (c .refused2 .ensures)
+    ∙ step-refused (entry .args .g) (entry .args .domain) (entry .args .kind) (entry .args .argument) (lent entry) (entry .args .t6)
     (by-domain (entry .args .g) (lengths (lent entry)) (policies (entry .args .g .ways) (entry .args .t6))
     (domainOf (entry .args .t6) (entry .args .domain) .counts) (drops entry)
     (entry .args .domain) (entry .args .kind) (entry .args .argument) (c .before .before .before .sizes .ensures) (c .before .before .if1 .left)
     (c .before .if2 .taken))
-    (λ e. omega arith) (c .refused2 .ensures)
+    (λ e. omega arith)
 
 kind-of-requires : tie.Need-kind-of-requires
 kind-of-requires c κs = search needs
@@ -105,7 +112,7 @@ same-length-4 : tie.Need-same-length-4
 same-length-4 c = search needs
 
 returns-3 : tie.Need-returns-3
-unfolding domainOf
+unfolding domainOf putDeed
 returns-3 c =
     let called = c .before .before .before .before .before .before .before .before .before in
     let told = called .before .before .before .before .before .before in
@@ -113,10 +120,11 @@ returns-3 c =
     let sized = told .before .before .before .before .before in
     let entry = sized .before .before .before .before .before .before in
     let last = called .line .last .1 in
-    step-line (entry .args .g) (entry .args .domain) (entry .args .kind) (entry .args .argument) (lent entry) (entry .args .t6) (is-shaped sized)
+    let left = tablesOf (last .0) (last .1 .0) (last .1 .1 .0) (last .1 .1 .1 .0) in
+    ap (λ (x : Stepped). outcome x left) (c .put-back .ensures)
+    ∙ step-line (entry .args .g) (entry .args .domain) (entry .args .kind) (entry .args .argument) (lent entry) (entry .args .t6) (is-shaped sized)
     (asked .result) (asked .ensures) (sized .before .sizes .ensures) (sized .if1 .left) (told .before .before .before .before .if2 .left)
-    _ {u = tablesOf (last .0) (last .1 .0) (last .1 .1 .0) (last .1 .1 .1 .0)}
-    (told .asked .given .1) (called .line .ensures) (c .put-back .ensures)
+    _ {deed = deedOf (called .line .result) left} (told .asked .given .1) (called .line .ensures)
 
 same-length-5 : tie.Need-same-length-5
 same-length-5 c = search needs
@@ -131,7 +139,7 @@ same-length-8 : tie.Need-same-length-8
 same-length-8 c = search needs
 
 returns-4 : tie.Need-returns-4
-unfolding domainOf
+unfolding domainOf putDeed
 returns-4 c =
     let called = c .before .before .before .before .before .before .before .before .before in
     let gathered = called .before .before .before .before .before in
@@ -140,19 +148,21 @@ returns-4 c =
     let sized = chosen .before .before .before .before in
     let entry = sized .before .before .before .before .before .before in
     let last = called .policy .last .1 in
-    step-policy (entry .args .g) (entry .args .domain) (entry .args .kind) (entry .args .argument) (lent entry) (entry .args .t6) (is-shaped sized)
+    let left = tablesOf (last .0) (last .1 .0) (last .1 .1 .0) (last .1 .1 .1 .0) in
+    ap (λ (x : Stepped). outcome x left) (c .put-back2 .ensures)
+    ∙ step-policy (entry .args .g) (entry .args .domain) (entry .args .kind) (entry .args .argument) (lent entry) (entry .args .t6) (is-shaped sized)
     (asked .result) (asked .ensures) (sized .before .sizes .ensures) (sized .if1 .left) (chosen .before .before .before .if2 .left)
-    {u = tablesOf (last .0) (last .1 .0) (last .1 .1 .0) (last .1 .1 .1 .0)}
-    (chosen .match .keys2) (gathered .policies-of .ensures) (called .policy .ensures) (c .put-back2 .ensures)
+    {deed = deedOf (called .policy .result) left} (chosen .match .keys2) (gathered .policies-of .ensures) (called .policy .ensures)
 
 returns-5 : tie.Need-returns-5
 returns-5 c =
     let sized = c .before .before .before .before .before .before in
     let entry = sized .before .before .before .before .before .before in
     let asked = c .before .before .before .before .kind-of in
-    step-unknown (entry .args .g) (entry .args .domain) (entry .args .kind) (entry .args .argument) (lent entry) (entry .args .t6)
+    ap (λ (x : Stepped). outcome x (lent entry)) (c .refused3 .ensures)
+    ∙ step-unknown (entry .args .g) (entry .args .domain) (entry .args .kind) (entry .args .argument) (lent entry) (entry .args .t6)
     (asked .result) (asked .ensures) (sized .before .sizes .ensures) (sized .if1 .left) (c .before .before .before .before .before .if2 .left)
-    (c .before .before .match .keys3) (c .refused3 .ensures)
+    (c .before .before .match .keys3)
 
 pub step-spec : {M : Type 1} → statement M
 step-spec =

@@ -4,7 +4,7 @@ use mathlib.Core.Path.{ap}
 use Prim.Native.Nat.{ℕ}
 use native.Mathlib.Omega.{arith}
 use Rattle.domains.specs.Domains.{overflows}
-use Rattle.cache.proofs.JudgeLaws.{judged-far, judged-near}
+use Rattle.steps.proofs.JudgeLaws.{judged-far, judged-near}
 use Rattle.cache.proofs.judge.drops.Statement.{statement}
 use Rattle.cache.proofs.judge.drops.Tie as tie
 

@@ -4,7 +4,7 @@ use Prim.Native.Nat.{_-_}
 use native.Mathlib.Omega.{arith}
 use Rattle.steps.specs.Tables.{Tables}
 use Rattle.steps.specs.Step.{tablesOf}
-use Rattle.cache.proofs.SweepLaws.{Sweeping, begin, turned, end}
+use Rattle.steps.proofs.SweepLaws.{Sweeping, begin, turned, end}
 use borrow.Author.Needs.{needs}
 use Rattle.cache.proofs.sets.sweep_sets.Statement.{statement}
 use Rattle.cache.proofs.sets.sweep_sets.Tie as tie

@@ -1,6 +1,7 @@
 -- `cache::sets::use_set` meets its contract.
 use borrow.Author.Needs.{needs}
-use Rattle.cache.specs.Inside.{workOf, workAt}
+use Rattle.row.specs.Calls.{useOf}
+use Rattle.steps.specs.Deed.{workAt}
 use Rattle.cache.proofs.RowLaws.{row-done}
 use Rattle.cache.proofs.sets.use_set.Statement.{statement}
 use Rattle.cache.proofs.sets.use_set.Tie as tie
@@ -29,20 +30,20 @@ mul-t23 c = search needs
 slice-read-t25 : tie.Need-slice-read-t25
 slice-read-t25 c = search needs
 
-mul-on-row : tie.Need-mul-on-row
-mul-on-row c = search needs
+mul-use-line : tie.Need-mul-use-line
+mul-use-line c = search needs
 
-sub-on-row : tie.Need-sub-on-row
-sub-on-row c = search needs
+sub-use-line : tie.Need-sub-use-line
+sub-use-line c = search needs
 
-part-on-row-start : tie.Need-part-on-row-start
-part-on-row-start c = search needs
+part-use-line-start : tie.Need-part-use-line-start
+part-use-line-start c = search needs
 
-part-on-row-end : tie.Need-part-on-row-end
-part-on-row-end c = search needs
+part-use-line-end : tie.Need-part-use-line-end
+part-use-line-end c = search needs
 
-on-row-requires : tie.Need-on-row-requires
-on-row-requires c κs = search needs
+use-line-requires : tie.Need-use-line-requires
+use-line-requires c κs = search needs
 
 mul-valid : tie.Need-mul-valid
 mul-valid c = search needs
@@ -83,10 +84,10 @@ returns c =
     (row-done (a .g .ways) (c .before .before .before .before .before .before .before .before .before .place-of .result .set)
     (c .before .before .before .before .before .before .before .before .span-of .result .start)
     (c .before .before .before .before .before .before .before .before .span-of .result .stop)
-    (workOf (a .usage) (a .g .rule) (a .maps) (c .before .before .before .before .before .before .before .before .before .place-of .result .tag))
-    (a .tags .now) (a .valid .now) (a .dirty .now) (a .words .now) (c .before .before .before .on-row .result) (c .before .before .before .on-row .last .0)
+    (useOf (a .usage) (a .g .rule) (a .maps) (c .before .before .before .before .before .before .before .before .before .place-of .result .tag))
+    (a .tags .now) (a .valid .now) (a .dirty .now) (a .words .now) (c .before .before .before .use-line .result) (c .before .before .before .use-line .last .0)
     (c .before .before .before .before .before .before .before .before .span-of .ensures .start-is)
-    (c .before .before .before .before .before .before .before .before .span-of .ensures .stop-is) (c .before .before .before .on-row .ensures))
+    (c .before .before .before .before .before .before .before .before .span-of .ensures .stop-is) (c .before .before .before .use-line .ensures))
 
 pub use-set-spec : {M : Type 1} → statement M
 use-set-spec =
@@ -100,11 +101,11 @@ use-set-spec =
     slice-read-t22
     mul-t23
     slice-read-t25
-    mul-on-row
-    sub-on-row
-    part-on-row-start
-    part-on-row-end
-    on-row-requires
+    mul-use-line
+    sub-use-line
+    part-use-line-start
+    part-use-line-end
+    use-line-requires
     mul-valid
     slice-write-valid
     mul-dirty

@@ -1,7 +1,10 @@
 -- `cache::work::line` meets its contract.
+use mathlib.Core.Path.{ap}
 use Rattle.steps.specs.Tables.{Tables}
 use Rattle.steps.specs.Step.{tablesOf}
-use Rattle.cache.proofs.DeedLaws.{line-down, line-room, line-done}
+use Rattle.steps.proofs.DeedLaws.{line-down, line-room, line-done}
+use Rattle.cache.specs.Inside.{deedOf}
+use Rattle.cache.specs.declared.account.Used.{Used}
 use borrow.Author.Needs.{needs}
 use Rattle.cache.proofs.work.line.Statement.{statement}
 use Rattle.cache.proofs.work.line.Tie as tie
@@ -21,7 +24,7 @@ returns c =
     let entry = c .before .before .before .before .before .before .before in
     line-down (entry .args .g) (entry .args .own) (entry .args .usage) (entry .args .address) (lent entry)
     (c .before .before .line-refusal .ensures)
-    (c .before .if1 .taken) (c .turned-down .ensures)
+    (c .before .if1 .taken) (ap (λ (u : Used). deedOf u (lent entry)) (c .turned-down .ensures))
 
 use-set-requires : tie.Need-use-set-requires
 use-set-requires c κs = search needs
@@ -51,10 +54,10 @@ returns-2 c =
     let entry = asked .before .before .before .before .before in
     let done = c .before .before .before .before .before .before .before .before .before .use-set in
     let last = done .last .1 in
-    line-done (entry .args .g) (entry .args .own) (entry .args .usage) (entry .args .address) (lent entry) (asked .line-refusal .ensures)
-    {v = tablesOf (last .0) (last .1 .0) (last .1 .1 .0) (last .1 .1 .1 .0)}
+    let left = tablesOf (last .0) (last .1 .0) (last .1 .1 .0) (last .1 .1 .1 .0) in
+    line-done (entry .args .g) (entry .args .own) (entry .args .usage) (entry .args .address) (lent entry) (asked .line-refusal .ensures) {v = left}
     (c .before .before .before .before .before .before .before .before .before .before .before .before .before .before .if1 .left) (done .ensures)
-    (c .after-use .ensures)
+    (ap (λ (u : Used). deedOf u left) (c .after-use .ensures))
 
 pub line-spec : {M : Type 1} → statement M
 line-spec =

@@ -1,7 +1,10 @@
 -- `cache::work::policy` meets its contract.
+use mathlib.Core.Path.{ap}
 use Rattle.steps.specs.Tables.{Tables}
 use Rattle.steps.specs.Step.{tablesOf}
-use Rattle.cache.proofs.DeedLaws.{policy-down, policy-room, policy-done}
+use Rattle.steps.proofs.DeedLaws.{policy-down, policy-room, policy-done}
+use Rattle.cache.specs.Inside.{deedOf}
+use Rattle.cache.specs.declared.account.Used.{Used}
 use borrow.Author.Needs.{needs}
 use Rattle.cache.proofs.work.policy.Statement.{statement}
 use Rattle.cache.proofs.work.policy.Tie as tie
@@ -28,7 +31,7 @@ returns c =
     let entry = asked .before .before .before .before .before .before .before in
     policy-down (entry .args .g) (entry .args .own) (entry .args .policies) (entry .args .domain) (entry .args .argument) (lent entry)
     (asked .before .drops .result) (entry .pre) (asked .before .drops .ensures) (asked .policy-refusal .ensures)
-    (c .before .if1 .taken) (c .turned-down .ensures)
+    (c .before .if1 .taken) (ap (λ (u : Used). deedOf u (lent entry)) (c .turned-down .ensures))
 
 new-maps-requires : tie.Need-new-maps-requires
 new-maps-requires c κs = search needs
@@ -70,11 +73,12 @@ returns-2 c =
     let asked = worked .before .before .before in
     let entry = asked .before .before .before .before .before .before .before in
     let last = swept .sweep-sets .last .1 in
+    let left = tablesOf (last .0) (last .1 .0) (last .1 .1 .0) (last .1 .1 .1 .0) in
     policy-done (entry .args .g) (entry .args .own) (entry .args .policies) (entry .args .domain) (entry .args .argument) (lent entry)
     (asked .before .drops .result) (entry .pre) (asked .before .drops .ensures) (asked .policy-refusal .ensures)
-    {v = tablesOf (last .0) (last .1 .0) (last .1 .1 .0) (last .1 .1 .1 .0)}
+    {v = left}
     (worked .before .before .if1 .left) (worked .before .new-maps .ensures) (worked .sweep-of .ensures) (swept .sweep-sets .ensures)
-    (c .after-change .ensures)
+    (λ i. deedOf (c .after-change .ensures i) left)
 
 pub policy-spec : {M : Type 1} → statement M
 policy-spec =

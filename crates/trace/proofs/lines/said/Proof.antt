@@ -4,7 +4,8 @@ use mathlib.Core.Path.{refl}
 use borrow.Author.Needs.{needs}
 use Rattle.waymap.proofs.Booleans.{cases}
 use Rattle.listing.specs.Listing.{told}
-use Rattle.trace.proofs.LineLaws.{says, bare}
+use Rattle.command.proofs.AnswerLaws.{bare}
+use Rattle.trace.proofs.LineLaws.{says}
 use Rattle.trace.proofs.lines.said.Statement.{statement}
 use Rattle.trace.proofs.lines.said.Tie as tie
 

@@ -24,11 +24,11 @@ use Rattle.policy.specs.declared.Maps.{Maps}
 use Rattle.command.specs.declared.Answer.{Answer}
 use Rattle.geometry.specs.Geometry.{maxSets}
 use Rattle.geometry.specs.declared.Geometry.{Geometry}
 use Rattle.steps.specs.Tables.{Tables, rowAt, putRow, eachSet, total}
 use Rattle.steps.specs.Inside.{Shaped}
-use Rattle.cache.specs.Inside.{Work, RowWork, onRow, dropsOf, AllSwept}
+use Rattle.steps.specs.Deed.{Work, RowWork, onRow, dropsBySweep, AllSwept}
 use Rattle.steps.proofs.SetLaws.{row-long, put-shaped, each-later}
 use Rattle.steps.proofs.TotalLaws.{total-ext}
 
 -- ---- one set
 
@@ -37,7 +37,7 @@ pub swept-long : (s : Sweep) (r : Row) → length (sweepBy s r .row .tags) ≡ l
 unfolding sweepBy
 swept-long s r = wiped-length (bit (asRead (ways r) (record { hit = s .gone; fill = 0 }) .hit)) (r .tags)
 
-few-drops : (s : Sweep) (r : Row) → (dropsOf s r .dropped ≤ 16) × (dropsOf s r .dirty ≤ 16)
+few-drops : (s : Sweep) (r : Row) → (dropsBySweep s r .dropped ≤ 16) × (dropsBySweep s r .dirty ≤ 16)
 unfolding sweepBy drops
 few-drops s r =
     let gone = asRead (ways r) (record { hit = s .gone; fill = 0 }) .hit in
@@ -72,9 +72,9 @@ module _ (g : Geometry) (sweep : Sweep) (before after : Tables) (h : Shaped g be
       ∙ each-later g (λ (r : Row). sweepBy sweep r .row) (swept-long sweep) before h s (omega arith) s (omega arith)
 
   module _ {a : Answer} {u : Tables} (e : RowWork a u (onRow (g .ways) s (sweepBy sweep) after)) where
-    drops-is : dropsIn a ≡ dropsOf sweep (rowAt (g .ways) s before)
+    drops-is : dropsIn a ≡ dropsBySweep sweep (rowAt (g .ways) s before)
     unfolding onRow
-    drops-is = ap (λ (w : Work). dropsIn (w .answer)) e ∙ ap (dropsOf sweep) row-is
+    drops-is = ap (λ (w : Work). dropsIn (w .answer)) e ∙ ap (dropsBySweep sweep) row-is
 
     tables-is : u ≡ putRow (g .ways) s (sweepBy sweep (rowAt (g .ways) s after) .row) after
     unfolding onRow
@@ -156,11 +156,11 @@ module _ (g : Geometry) (old new : Maps) (t : Tables) (h : Shaped g t) where
       drops : n ≡ total (g .ways) (g .sets) (dropped was next) t
       drops =
           a .dropped-is
-          ∙ total-ext (g .ways) (g .sets) (λ (r : Row). dropsOf sweep r .dropped) (dropped was next) t t
+          ∙ total-ext (g .ways) (g .sets) (λ (r : Row). dropsBySweep sweep r .dropped) (dropped was next) t t
           (λ i k. ap (λ (x : Effect). dropsIn (x .answer) .dropped) (is (rowAt (g .ways) i t) (row-long g h i k)))
 
       dirt : d ≡ total (g .ways) (g .sets) (droppedDirty was next) t
       dirt =
           a .dirty-is
-          ∙ total-ext (g .ways) (g .sets) (λ (r : Row). dropsOf sweep r .dirty) (droppedDirty was next) t t
+          ∙ total-ext (g .ways) (g .sets) (λ (r : Row). dropsBySweep sweep r .dirty) (droppedDirty was next) t t
           (λ i k. ap (λ (x : Effect). dropsIn (x .answer) .dirty) (is (rowAt (g .ways) i t) (row-long g h i k)))

@@ -1,11 +1,11 @@
 -- What number 7 has to know of a change of policy: whether its drops carry the count past the largest.
-use mathlib.Core.Path.{_≡_, sym, ap, _∙_}
-use mathlib.Core.Bool.{Bool, _&&_, not}
+use mathlib.Core.Path.{_≡_, _∙_}
+use mathlib.Core.Bool.{_&&_}
 use mathlib.Core.List.{List, [], _∷_}
 use Prim.Native.Nat.{ℕ, _+_, _*_, _%_, _^_, _≤_, _<_}
-use native.Mathlib.Nat.{mod-eq-of-lt, lt-of-le-of-lt, le-trans, mul-suc}
+use native.Mathlib.Nat.{mod-eq-of-lt, lt-of-le-of-lt}
 use native.Mathlib.Omega.{arith}
-use lib.Dec.{lit<, ltb}
+use lib.Dec.{lit<}
 use lib.ListN.{length}
 use borrow.Author.Tests.{le-ltb}
 use Rattle.waymap.specs.Bits.{Bits, bit, word, count}
@@ -13,7 +13,7 @@ use Rattle.waymap.proofs.WordLaws.{bit-word-in}
 use Rattle.waymap.proofs.WayLaws.{count-le}
 use Rattle.policy.specs.Policy.{asRead, newMaps}
 use Rattle.policy.specs.declared.Maps.{Maps}
-use Rattle.sweep.specs.Clean.{moved, dropWays}
+use Rattle.sweep.specs.Clean.{dropWays}
 use Rattle.sweep.specs.Number.{linesAmong}
 use Rattle.sweep.proofs.SweepLaws.{drop-beyond}
 use Rattle.domains.specs.Domains.{mapsOf, overflows}
@@ -24,10 +24,10 @@ use Rattle.domains.specs.declared.Policies.{Policies}
 use Rattle.verdict.specs.Refusal.{heldElsewhere}
 use Rattle.geometry.specs.Geometry.{maxSets}
 use Rattle.geometry.specs.declared.Geometry.{Geometry}
 use Rattle.steps.specs.Tables.{Tables}
 use Rattle.steps.specs.Inside.{Shaped}
 use Rattle.steps.proofs.TotalLaws.{among-ext, among-total}
-use Rattle.cache.specs.Inside.{dropMap, dropsAmong, dropsBy}
+use Rattle.steps.specs.Deed.{dropMap, dropsAmong, dropsBy}
 
 -- no more lines than sixteen a set
 among-most : (map : Bits) (vs : List ℕ) → linesAmong map vs ≤ 16 * length vs

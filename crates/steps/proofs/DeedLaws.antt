@@ -23,17 +23,16 @@ use Rattle.domains.specs.declared.Domain.{Domain}
 use Rattle.domains.specs.declared.Policies.{Policies}
 use Rattle.verdict.proofs.RefusalLaws.{not-full}
 use Rattle.verdict.proofs.PolicyLaws.{policy-passed, drops-judged}
 use Rattle.steps.specs.Tables.{Tables, total}
 use Rattle.steps.specs.Inside.{Shaped}
 use Rattle.steps.proofs.DropLaws.{drop-ways-all}
-use Rattle.cache.specs.Inside.{Work, RowWork, workAt, AllSwept, Deed, deedOf, unless, lineDeed, dropMap, dropsAmong, dropsBy, policyDeed}
-use Rattle.cache.specs.declared.account.Used.{Used}
+use Rattle.steps.specs.Deed.{Work, RowWork, workAt, AllSwept, Deed, unless, lineDeed, dropMap, dropsAmong, dropsBy, policyDeed}
 use Rattle.sweep.specs.declared.Drops.{Drops}
-use Rattle.cache.proofs.SweepLaws.{all-clean}
-use Rattle.cache.proofs.JudgeLaws.{drops-are}
+use Rattle.steps.proofs.SweepLaws.{all-clean}
+use Rattle.steps.proofs.JudgeLaws.{drops-are}
 
-down : {n m : ℕ} {u : Used} (x : Domain) (t : Tables) (done : Deed) → n ≡ m → (n ≡ 0 → ⊥) → u ≡ record { answer = Refused n; own = x }
-    → deedOf u t ≡ unless m x t done
+down : {n m : ℕ} {y : Deed} (x : Domain) (t : Tables) (done : Deed) → n ≡ m → (n ≡ 0 → ⊥) → y ≡ record { answer = Refused n; own = x; tables = t }
+    → y ≡ unless m x t done
 unfolding unless
 down {n} x t done e z f = rw (← e, ne-eqb n 0 z, f)
 
@@ -43,22 +42,20 @@ done-is x t done e z f = rw (← e, z, f)
 
 -- ---- an access or a flush
 
-module _ (g : Geometry) (x : Domain) (y : LineUse) (arg : ℕ) (t : Tables)
+module _ (g : Geometry) (x : Domain) (u : LineUse) (arg : ℕ) (t : Tables)
     {n : ℕ} (e : n ≡ useRefusal (asRead (g .ways) (mapsOf x)) (x .counts)) where
-  pub line-down : {u : Used} → (n ≡ 0 → ⊥) → u ≡ record { answer = Refused n; own = x } → deedOf u t ≡ lineDeed g x y arg t
+  pub line-down : {y : Deed} → (n ≡ 0 → ⊥) → y ≡ record { answer = Refused n; own = x; tables = t } → y ≡ lineDeed g x u arg t
   unfolding lineDeed
   line-down z f = down x t _ e z f
 
   pub line-room : n ≡ 0 → isFull (x .counts) ≡ false
   line-room z = not-full (asRead (g .ways) (mapsOf x)) (x .counts) (sym e ∙ z)
 
-  pub line-done : {a : Answer} {v : Tables} {u : Used} → n ≡ 0 → RowWork a v (workAt g y (mapsOf x) arg t)
-      → u ≡ record { answer = a; own = usedDomain a x } → deedOf u v ≡ lineDeed g x y arg t
+  pub line-done : {a : Answer} {v : Tables} {y : Deed} → n ≡ 0 → RowWork a v (workAt g u (mapsOf x) arg t)
+      → y ≡ record { answer = a; own = usedDomain a x; tables = v } → y ≡ lineDeed g x u arg t
   unfolding lineDeed
-  line-done {a} {v} z w f =
-      done-is x t _ e z
-      (ap (λ (o : Used). deedOf o v) f
-      ∙ ap (λ (o : Work). record { answer = o .answer; own = usedDomain (o .answer) x; tables = o .tables }) w)
+  line-done z w f =
+      done-is x t _ e z (f ∙ ap (λ (o : Work). record { answer = o .answer; own = usedDomain (o .answer) x; tables = o .tables }) w)
 
 -- ---- a change of policy
 
@@ -74,7 +71,7 @@ module _ (g : Geometry) (x : Domain) (p : Policies) (d arg : ℕ) (t : Tables) {
       (drops-judged g (readBy (g .ways) p) (x .counts) drops (dropsBy g x p d arg t) d arg
       (judged ∙ ap (λ (m : ℕ). overflows arg m (x .counts)) (drops-are g x p d arg t shaped)))
 
-  pub policy-down : {u : Used} → (n ≡ 0 → ⊥) → u ≡ record { answer = Refused n; own = x } → deedOf u t ≡ policyDeed g x p d arg t
+  pub policy-down : {y : Deed} → (n ≡ 0 → ⊥) → y ≡ record { answer = Refused n; own = x; tables = t } → y ≡ policyDeed g x p d arg t
   unfolding policyDeed
   policy-down z f = down x t _ number-is z f
 
@@ -94,11 +91,11 @@ module _ (g : Geometry) (x : Domain) (p : Policies) (d arg : ℕ) (t : Tables) {
         (sym (drop-ways-all (g .ways) (readBy (g .ways) p) (asRead (g .ways) (mapsOf x)) d arg (passes .1 .ways-free))))
         ∙ passes .0
 
-    pub policy-done : {u : Used} → u ≡ record { answer = Policy (done .dropped) (done .dirty); own = newDomain arg (done .dropped) x }
-        → deedOf u v ≡ policyDeed g x p d arg t
+    pub policy-done : {y : Deed} → y ≡ record { answer = Policy (done .dropped) (done .dirty); own = newDomain arg (done .dropped) x; tables = v }
+        → y ≡ policyDeed g x p d arg t
     unfolding policyDeed
     policy-done f =
         let all = all-clean g (mapsOf x) (newMaps arg) t shaped a (s ∙ ap (sweepOf (g .ways) (g .rule) (mapsOf x)) m) in
         done-is x t _ number-is z
-        (ap (λ (y : Used). deedOf y v) f
+        (f
         ∙ (λ i. record { answer = Policy (all .1 i) (all .2 i); own = newDomain arg (all .1 i) x; tables = all .0 i }))

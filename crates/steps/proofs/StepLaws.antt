@@ -17,7 +17,7 @@ use Rattle.replacement.proofs.CallLaws.{ways}
 use Rattle.row.specs.Row.{Row, Effect, linesIn}
 use Rattle.policy.specs.Policy.{asRead, newMaps}
 use Rattle.sweep.specs.Clean.{dropWays, dropped, droppedDirty, cleaned}
-use Rattle.row.specs.Calls.{accessOf, flushOf}
+use Rattle.row.specs.Calls.{accessOf, flushOf, flushes, stores, useOf}
 use Rattle.policy.specs.declared.Maps.{Maps}
 use Rattle.command.specs.declared.Answer.{Answer}
 use Rattle.command.specs.declared.Answer.the-variants.{Policy, Refused}
@@ -41,14 +41,11 @@ use Rattle.command.proofs.KindLaws.{asked-policy}
 use Rattle.verdict.proofs.RefusalLaws.{by-line, by-policy, by-unknown}
 use Rattle.verdict.proofs.PolicyLaws.{read-policies, read-held}
 use Rattle.geometry.specs.Address.{setOf, tagOf}
 use Rattle.steps.specs.Tables.{Tables, lengths, rowAt, eachSet, total}
 use Rattle.steps.specs.Step.{State, Outcome, answers, onSet, rowEffect, useLine, droppedBy, changePolicy, dropsOf, stepBy, decided, step}
-use Rattle.cache.specs.Calls.{outcome}
 use Rattle.steps.specs.Inside.{Shaped, lineWork}
-use Rattle.cache.specs.Inside.{flushes, stores, Work, onRow, workOf, workAt, Deed, deedOf, unless, lineDeed, dropMap, dropsBy, policyDeed}
-use Rattle.cache.specs.declared.Stepped.{Stepped}
-use Rattle.cache.specs.declared.account.Used.{Used}
+use Rattle.steps.specs.Deed.{Work, onRow, workAt, Deed, unless, lineDeed, dropMap, dropsBy, policyDeed, putDeed}
 use Rattle.steps.proofs.SetLaws.{row-long}
 
 -- ---- a verdict, and what is done without one
 
@@ -60,8 +57,8 @@ decided-no {n} done s h = rw (ne-eqb n 0 h)
 
 -- on a row of W tags the call's work is the rule's
 line-work : (g : Geometry) (y : LineUse) (p : Maps) (tag : ℕ) (r : Row) → inLimits (g .ways) (g .rule) ≡ true → length (r .tags) ≡ g .ways
-    → workOf y (g .rule) p tag r ≡ lineWork (flushes y) (ruleOf (g .rule) (g .ways)) (stores y) (asRead (g .ways) p) tag r
-unfolding workOf flushOf accessOf inLimits
+    → useOf y (g .rule) p tag r ≡ lineWork (flushes y) (ruleOf (g .rule) (g .ways)) (stores y) (asRead (g .ways) p) tag r
+unfolding useOf flushOf accessOf inLimits
 line-work g Load p tag r limits h = rw (h, limits)
 line-work g Store p tag r limits h = rw (h, limits)
 line-work g Flush p tag r limits h = rw (h, ways (g .ways) (g .rule) limits)
@@ -73,7 +70,7 @@ module _ (g : Geometry) (d : ℕ) (y : LineUse) (arg : ℕ) (t : Tables) (ds : D
   effect : Effect
   effect = rowEffect g (lineWork (flushes y) (ruleOf (g .rule) (g .ways)) (stores y)) d arg before
 
-  effect-is : workOf y (g .rule) (mapsOf (domainOf ds d)) (tagOf g arg) (rowAt (g .ways) (setOf g arg) t) ≡ effect
+  effect-is : useOf y (g .rule) (mapsOf (domainOf ds d)) (tagOf g arg) (rowAt (g .ways) (setOf g arg) t) ≡ effect
   unfolding effect rowEffect policies setOf
   effect-is =
       line-work g y (mapsOf (domainOf ds d)) (tagOf g arg) (rowAt (g .ways) (setOf g arg) t) (h .limited .limits)
@@ -99,7 +96,7 @@ drops-read g d arg t ds =
 -- ---- the step
 
 -- a domain's own record put back changes nothing
-put-own : (d : ℕ) (ds : Domains) → putDomain d (domainOf ds d) ds ≡ ds
+pub put-own : (d : ℕ) (ds : Domains) → putDomain d (domainOf ds d) ds ≡ ds
 unfolding putDomain domainOf
 put-own d ds = ap (λ (xs : List Domain). record { records = xs }) (set-own (ds .records) d)
   where
@@ -117,20 +114,19 @@ module _ (g : Geometry) (d kind arg : ℕ) (t : Tables) (ds : Domains) where
   stepNumber = refusal g (lengths t) (policies (g .ways) ds) (domainOf ds d .counts) (dropsOf g d arg found) d kind arg
 
   -- what is turned down before a domain is looked at
-  pub step-refused : {n : ℕ} {r : Stepped} → n ≡ stepNumber → (n ≡ 0 → ⊥) → r ≡ record { answer = Refused n; domains = ds }
-      → outcome r t ≡ step g d kind arg found
+  pub step-refused : {n : ℕ} → n ≡ stepNumber → (n ≡ 0 → ⊥) → answers (Refused n) found ≡ step g d kind arg found
   unfolding step
-  step-refused e z f = ap (λ (x : Stepped). outcome x t) f ∙ rw (← e) (decided-no (stepBy (kindOf kind) g d arg found) found z)
+  step-refused e z = rw (← e) (decided-no (stepBy (kindOf kind) g d arg found) found z)
 
   -- the domain's deed, put back: done where its number is 0, and else nothing moves
   step-done : {n : ℕ} {deed : Deed} (a : Answer) (x : Domain) (u : Tables)
       → n ≡ stepNumber
       → answers a (record { tables = u; domains = putDomain d x ds }) ≡ stepBy (kindOf kind) g d arg found
       → deed ≡ unless n (domainOf ds d) t (record { answer = a; own = x; tables = u })
-      → answers (deed .answer) (record { tables = deed .tables; domains = putDomain d (deed .own) ds }) ≡ step g d kind arg found
-  unfolding step decided unless
-  step-done {n} {deed} a x u e done f =
-      ap (λ (y : Deed). answers (y .answer) (record { tables = y .tables; domains = putDomain d (y .own) ds })) f
+      → putDeed d deed ds ≡ step g d kind arg found
+  unfolding step decided unless putDeed
+  step-done {n} a x u e done f =
+      ap (λ (y : Deed). putDeed d y ds) f
       ∙ rw (← e)
       (cases (eqb n 0)
       (λ z. rw z done)
@@ -138,12 +134,11 @@ module _ (g : Geometry) (d kind arg : ℕ) (t : Tables) (ds : Domains) where
 
   module _ (h : Shaped g t) (q : Asked) (k : kindIs q ≡ kindOf kind)
       {m : ℕ} (e : m ≡ sizesOf g (lengths t)) (z : m ≡ 0) (l : d < 16) where
-    pub step-line : (y : LineUse) {used : Used} {u : Tables} {r : Stepped} → q ≡ AskedIs.Line y → deedOf used u ≡ lineDeed g (domainOf ds d) y arg t
-        → r ≡ record { answer = used .answer; domains = putDomain d (used .own) ds } → outcome r u ≡ step g d kind arg found
+    pub step-line : (y : LineUse) {deed : Deed} → q ≡ AskedIs.Line y → deed ≡ lineDeed g (domainOf ds d) y arg t
+        → putDeed d deed ds ≡ step g d kind arg found
     unfolding lineDeed stepBy policies
-    step-line y {used} {u} {r} is f b =
-        ap (λ (x : Stepped). outcome x u) b
-        ∙ step-done (w .answer) (usedDomain (w .answer) (domainOf ds d)) (w .tables) number
+    step-line y is f =
+        step-done (w .answer) (usedDomain (w .answer) (domainOf ds d)) (w .tables) number
         (line-done g d y arg t ds h ∙ kind-line y (sym (ap kindIs is) ∙ k)) f
       where
         w : Work
@@ -160,13 +155,11 @@ module _ (g : Geometry) (d kind arg : ℕ) (t : Tables) (ds : Domains) where
         kind-line Store p = ap (λ (x : Kind). stepBy x g d arg found) p
         kind-line Flush p = ap (λ (x : Kind). stepBy x g d arg found) p
 
-    pub step-policy : {p : Policies} {used : Used} {u : Tables} {r : Stepped} → variantOf AskedType.the-type q ≡ 1 → p ≡ policiesOf ds
-        → deedOf used u ≡ policyDeed g (domainOf ds d) p d arg t
-        → r ≡ record { answer = used .answer; domains = putDomain d (used .own) ds } → outcome r u ≡ step g d kind arg found
+    pub step-policy : {p : Policies} {deed : Deed} → variantOf AskedType.the-type q ≡ 1 → p ≡ policiesOf ds
+        → deed ≡ policyDeed g (domainOf ds d) p d arg t → putDeed d deed ds ≡ step g d kind arg found
     unfolding policyDeed policyRefusalOf stepBy changePolicy droppedBy policies
-    step-policy {p} {used} {u} {r} is o f b =
-        ap (λ (x : Stepped). outcome x u) b
-        ∙ step-done (Policy n (total W (g .sets) (droppedDirty old new) t)) (newDomain arg n (domainOf ds d))
+    step-policy {p} is o f =
+        step-done (Policy n (total W (g .sets) (droppedDirty old new) t)) (newDomain arg n (domainOf ds d))
         (eachSet W (g .sets) (cleaned (ruleOf (g .rule) W) old new) t) number
         (ap (λ (x : Kind). stepBy x g d arg found) (asked-policy q is ∙ k)) f
       where
@@ -197,8 +190,8 @@ module _ (g : Geometry) (d kind arg : ℕ) (t : Tables) (ds : Domains) where
             ap (λ (x : Policies). policyRefusalOf g x (own .counts) (dropsBy g own x d arg t) d arg) o
             ∙ rw (h .limited .limits, drops) (read-policies g ds (own .counts) (dropsOf g d arg found) d arg) ∙ verdict
 
-  pub step-unknown : {r : Stepped} (q : Asked) → kindIs q ≡ kindOf kind → {m : ℕ} → m ≡ sizesOf g (lengths t) → m ≡ 0 → d < 16
-      → variantOf AskedType.the-type q ≡ 2 → r ≡ record { answer = Refused 4; domains = ds } → outcome r t ≡ step g d kind arg found
-  step-unknown q k e z l is f =
+  pub step-unknown : (q : Asked) → kindIs q ≡ kindOf kind → {m : ℕ} → m ≡ sizesOf g (lengths t) → m ≡ 0 → d < 16
+      → variantOf AskedType.the-type q ≡ 2 → answers (Refused 4) found ≡ step g d kind arg found
+  step-unknown q k e z l is =
       step-refused (by-unknown g (lengths t) (policies (g .ways) ds) (domainOf ds d .counts) (dropsOf g d arg found) d kind arg e z q k l is)
-      (λ n. omega arith) f
+      (λ n. omega arith)
