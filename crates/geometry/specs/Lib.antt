@@ -1,4 +1,5 @@
--- Document 01, "Geometry and tables": the limits, the tables' lengths, and the set and tag of an address.
+-- Document 01, "Geometry and tables": the limits, the tables' lengths, and the set and tag of an address; and how bytes name a geometry.
 pub mod Geometry
 pub mod Address
 pub mod Inside
+pub mod Named

@@ -1,8 +1,9 @@
-// The geometry of a cache: its limits, how long the tables are, and where an address's line can be.
+// The geometry of a cache: how bytes name it, its limits, how long the tables are, and where an address's line can be.
 ghost use mathlib.Core.Path.{_≡_};
 ghost use Rattle.geometry.specs.Geometry.{within as withinLimits, sized as sizedAs, sizesOf};
 ghost use Rattle.geometry.specs.Address.{placeOf};
 ghost use Rattle.geometry.specs.Inside.{Limited};
+ghost use Rattle.geometry.specs.Named.{geometryOf};
 
 // The most sets of a cache.
 pub const MAX_SETS: usize = 4096;
@@ -12,6 +13,16 @@ pub struct Geometry {
     pub sets: usize,
     pub ways: usize,
     pub rule: usize,
+}
+
+// The geometry that the first bytes of a trace file or of a block name; bytes behind the end are 0.
+pub fn named(bytes: &[u8]) -> Geometry
+    ensures { λ r. ⌜ r ≡ geometryOf (now (bytes .entry)) ⌝ }
+{
+    let sets = endian::u16_at(bytes, 0) as usize;
+    let ways = endian::u8_at(bytes, 2) as usize;
+    let rule = endian::u8_at(bytes, 3) as usize;
+    Geometry { sets, ways, rule }
 }
 
 // Whether the geometry is within the limits.

@@ -4,12 +4,13 @@ use mathlib.Core.Bool.{true}
 use mathlib.Core.List.{List}
 use Prim.Native.Nat.{ℕ}
 use lib.Dec.{lit≤}
+use Rattle.geometry.specs.Named.{geometryOf}
 use Rattle.geometry.specs.declared.Geometry.{Geometry}
 use Rattle.command.specs.Command.{Command}
 use Rattle.selectors.specs.Selectors.{coreless}
 use Rattle.cores.specs.Run.{freshLent}
 use Rattle.cores.proofs.OtherLaws.{others-answers, others-finally}
-use Rattle.tracefile.specs.File.{geometryOf, stepCount, stepsOf}
+use Rattle.tracefile.specs.File.{stepCount, stepsOf}
 use Rattle.listing.specs.Listing.{listerCores, runLines, listing}
 use Rattle.listing.specs.Before.{linesBefore, listingBefore}
 

@@ -5,9 +5,10 @@ use Prim.Native.Nat.{ℕ}
 use Rattle.waymap.specs.Bits.{any}
 use Rattle.waymap.specs.Ways.{isWays}
 use Rattle.replacement.specs.Calls.{inLimits}
+use Rattle.endian.specs.Bytes.{value, field}
 use Rattle.geometry.specs.Geometry.{isPower, within}
 use Rattle.command.specs.Command.{commandOf}
-use Rattle.tracefile.specs.File.{value, field, lastSteps, badFile, fileRefusal}
+use Rattle.tracefile.specs.File.{lastSteps, badFile, fileRefusal}
 use Rattle.listing.specs.Listing.{decimalBy, line, told, answerLines, domainLine, domainPart, domainLines, runLines, listing}
 use Rattle.cores.proofs.Computing.{coreComputing}
 

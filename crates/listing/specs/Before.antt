@@ -4,11 +4,12 @@ use mathlib.Core.List.{List, _++_}
 use Prim.Native.Nat.{ℕ}
 use lib.Dec.{eqb}
 use Rattle.domains.specs.Domains.{maxDomains}
+use Rattle.geometry.specs.Named.{geometryOf}
 use Rattle.geometry.specs.declared.Geometry.{Geometry}
 use Rattle.command.specs.Command.{Command}
 use Rattle.steps.specs.Run.{answersOf, finally}
 use Rattle.steps.specs.Fresh.{fresh}
-use Rattle.tracefile.specs.File.{geometryOf, stepCount, stepsOf, fileRefusal}
+use Rattle.tracefile.specs.File.{stepCount, stepsOf, fileRefusal}
 use Rattle.listing.specs.Listing.{answerLines, domainLines, headLine, refusedLine}
 
 unfoldable pub linesBefore : Geometry → List Command → ℕ → List ℕ

@@ -6,6 +6,7 @@ use lib.Dec.{eqb, ltb}
 use lib.ListN.{getD}
 use Rattle.policy.specs.Policy.{asRead}
 use Rattle.domains.specs.Domains.{maxDomains, domainOf}
+use Rattle.geometry.specs.Named.{geometryOf}
 use Rattle.geometry.specs.declared.Geometry.{Geometry}
 use Rattle.domains.specs.declared.Counts.{Counts}
 use Rattle.domains.specs.declared.Domain.{Domain}
@@ -13,7 +14,7 @@ use Rattle.domains.specs.declared.Domains.{Domains}
 use Rattle.command.specs.Command.{Command}
 use Rattle.selectors.specs.Selectors.{maxCores}
 use Rattle.cores.specs.Run.{coreAnswers, coreFinally, freshLent}
-use Rattle.tracefile.specs.File.{geometryOf, stepCount, stepsOf, fileRefusal}
+use Rattle.tracefile.specs.File.{stepCount, stepsOf, fileRefusal}
 
 -- A number "in decimal", of at most k digits.
 unfoldable pub decimalBy : ℕ → ℕ → List ℕ

@@ -38,7 +38,7 @@ fn show_file(file: &[u8]) -> bool {
     if number != 0 {
         return show_refused(number as u64);
     }
-    let g = tracefile::geometry(file);
+    let g = geometry::named(file);
     let n = tracefile::steps(file);
     let mut i = 0;
     while i < n {

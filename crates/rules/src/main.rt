@@ -163,7 +163,7 @@ fn show_file(file: &[u8]) -> bool {
         }
         return false;
     }
-    let g = tracefile::geometry(file);
+    let g = geometry::named(file);
     if show_fresh(g.ways, g.rule) {
         return show_entries(file, g.ways, g.rule);
     }

@@ -167,7 +167,7 @@ fn show_parts(head: &[u8], file: &[u8]) -> bool
         return crate::show_told(b"refused", &[number as u64]);
     }
     let n = tracefile::steps(file);
-    let g = tracefile::geometry(file);
+    let g = geometry::named(file);
     if crate::show_head(g, n) {
         return lend(g, head, file, n);
     }

@@ -261,7 +261,7 @@ fn show_file(file: &[u8]) -> bool {
     if whole(file, n as usize) {} else {
         return lent::show_file(file);
     }
-    let g = tracefile::geometry(file);
+    let g = geometry::named(file);
     if show_head(g, n) {
         return lend(g, file, n);
     }

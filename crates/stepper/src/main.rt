@@ -558,7 +558,7 @@ fn show_file(file: &[u8]) -> bool {
     if tracefile::refusal(file) != 0 {
         return true;
     }
-    let g = tracefile::geometry(file);
+    let g = geometry::named(file);
     let sets = g.sets;
     let ways = g.ways;
     if sets == 0 {

@@ -13,12 +13,13 @@ use borrow.Rule.Slice.PartMut.{postOf, post-is}
 use Rattle.io.specs.Counts.{Counts}
 use Rattle.geometry.specs.Geometry.{within, Lengths, sized}
 use Rattle.geometry.specs.Inside.{Limited}
+use Rattle.geometry.specs.Named.{geometryOf}
 use Rattle.geometry.specs.declared.Geometry.{Geometry}
 use Rattle.geometry.proofs.GeometryLaws.{limited, rows-fit}
 use Rattle.steps.specs.Tables.{Tables, lengths}
 use Rattle.steps.specs.Step.{tablesOf}
 use Rattle.tracefile.proofs.FileLaws.{Accepted, accepted}
-use Rattle.tracefile.specs.File.{maxSteps, maxFileSets, geometryOf, stepCount, stepsOf, fileRefusal}
+use Rattle.tracefile.specs.File.{maxSteps, maxFileSets, stepCount, stepsOf, fileRefusal}
 use Rattle.listing.specs.Listing.{refusedLine, runLines, listing}
 use Rattle.trace.specs.Calls.{Listed, listedOf, onto, ontoTables, lastTables, listOf}
 use Rattle.trace.specs.Inside.{Written, writtenOf, append, ListedBy, listedBy, listingBy, Roomy}

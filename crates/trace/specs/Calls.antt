@@ -4,9 +4,10 @@ use mathlib.Core.List.{List, _++_}
 use Prim.Native.Nat.{ℕ}
 use lib.Dec.{eqb}
 use lib.ListN.{length, drop}
+use Rattle.geometry.specs.Named.{geometryOf}
 use Rattle.cores.specs.Run.{coreFinally, freshLent}
 use Rattle.steps.specs.Tables.{Tables}
-use Rattle.tracefile.specs.File.{geometryOf, stepsOf, fileRefusal}
+use Rattle.tracefile.specs.File.{stepsOf, fileRefusal}
 use Rattle.listing.specs.Listing.{listerCores, listing}
 
 -- How many bytes are written, the output and the tables.

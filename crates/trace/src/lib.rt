@@ -124,7 +124,7 @@ fn list_file(
         ≡ listOf (now (file .entry)) (now (out .entry))
         (tablesOf (now (tags .entry)) (now (valid .entry)) (now (dirty .entry)) (now (words .entry))) ⌝ }
 {
-    let g = tracefile::geometry(file);
+    let g = geometry::named(file);
     let steps = tracefile::steps(file);
     let sets = g.sets;
     let cells = sets * g.ways;

@@ -3,24 +3,13 @@ use mathlib.Core.Bool.{Bool, cond, not, _||_}
 use mathlib.Core.List.{List, [], _∷_}
 use Prim.Native.Nat.{ℕ, zero, suc, _+_, _*_}
 use lib.Dec.{eqb, ltb}
-use lib.ListN.{length, take, drop}
+use lib.ListN.{length}
+use Rattle.endian.specs.Bytes.{field}
 use Rattle.geometry.specs.Geometry.{within}
-use Rattle.geometry.specs.declared.Geometry.{Geometry}
+use Rattle.geometry.specs.Named.{geometryOf}
 use Rattle.command.specs.Command.{Command, commandOf}
 
--- "little-endian": the value of some bytes.
-unfoldable pub value : List ℕ → ℕ
-value [] = 0
-value (b ∷ bs) = b + 256 * value bs
-
--- The value of the n bytes from byte i on.
-unfoldable pub field : ℕ → ℕ → List ℕ → ℕ
-field i n file = value (take n (drop i file))
-
--- "sets (2 bytes), ways (1), rule (1), number of steps n (4)"
-abbrev pub geometryOf : List ℕ → Geometry
-geometryOf file = record { sets = field 0 2 file; ways = field 2 1 file; rule = field 3 1 file }
-
+-- "sets (2 bytes), ways (1), rule (1)" are `geometryOf`; then "number of steps n (4)".
 abbrev pub stepCount : List ℕ → ℕ
 stepCount file = field 4 4 file
 

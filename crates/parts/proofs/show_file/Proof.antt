@@ -20,8 +20,8 @@ show-refused-requires c κs = search needs
 returns : tie.Need-returns Inv-loop μ-loop
 returns c = tt
 
-geometry-requires : tie.Need-geometry-requires Inv-loop μ-loop
-geometry-requires c κs = search needs
+named-requires : tie.Need-named-requires Inv-loop μ-loop
+named-requires c κs = search needs
 
 steps-requires : tie.Need-steps-requires Inv-loop μ-loop
 steps-requires c κs = search needs
@@ -62,7 +62,7 @@ show-file-spec =
     refusal-requires
     show-refused-requires
     returns
-    geometry-requires
+    named-requires
     steps-requires
     loop-holds
     command-at-requires

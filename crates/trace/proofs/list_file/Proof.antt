@@ -7,8 +7,8 @@ use Rattle.trace.proofs.ListLaws.{fitting, lent-sized, listed-is}
 use Rattle.trace.proofs.list_file.Statement.{statement}
 use Rattle.trace.proofs.list_file.Tie as tie
 
-geometry-requires : tie.Need-geometry-requires
-geometry-requires c κs = search needs
+named-requires : tie.Need-named-requires
+named-requires c κs = search needs
 
 steps-requires : tie.Need-steps-requires
 steps-requires c κs = search needs
@@ -17,7 +17,7 @@ mul-cells : tie.Need-mul-cells
 mul-cells c =
     let read = c .before in
     let entry = read .before .before .before .before .before .before .before .before in
-    fits-below tt (fitting (entry .args .file .now) (read .before .geometry .ensures) (read .steps .ensures) (entry .pre .0) (entry .pre .1) .cells)
+    fits-below tt (fitting (entry .args .file .now) (read .before .named .ensures) (read .steps .ensures) (entry .pre .0) (entry .pre .1) .cells)
 
 sub-listing : tie.Need-sub-listing
 sub-listing c = zero-le
@@ -29,7 +29,7 @@ part-listing-end : tie.Need-part-listing-end
 part-listing-end c =
     let read = c .before in
     let entry = read .before .before .before .before .before .before .before .before in
-    fitting (entry .args .file .now) (read .before .geometry .ensures) (read .steps .ensures) (entry .pre .0) (entry .pre .1) .tags-room
+    fitting (entry .args .file .now) (read .before .named .ensures) (read .steps .ensures) (entry .pre .0) (entry .pre .1) .tags-room
 
 sub-listing-2 : tie.Need-sub-listing-2
 sub-listing-2 c = zero-le
@@ -41,7 +41,7 @@ part-listing-end-2 : tie.Need-part-listing-end-2
 part-listing-end-2 c =
     let read = c .before .before in
     let entry = read .before .before .before .before .before .before .before .before in
-    fitting (entry .args .file .now) (read .before .geometry .ensures) (read .steps .ensures) (entry .pre .0) (entry .pre .1) .valid-room
+    fitting (entry .args .file .now) (read .before .named .ensures) (read .steps .ensures) (entry .pre .0) (entry .pre .1) .valid-room
 
 sub-listing-3 : tie.Need-sub-listing-3
 sub-listing-3 c = zero-le
@@ -53,7 +53,7 @@ part-listing-end-3 : tie.Need-part-listing-end-3
 part-listing-end-3 c =
     let read = c .before .before .before in
     let entry = read .before .before .before .before .before .before .before .before in
-    fitting (entry .args .file .now) (read .before .geometry .ensures) (read .steps .ensures) (entry .pre .0) (entry .pre .1) .dirty-room
+    fitting (entry .args .file .now) (read .before .named .ensures) (read .steps .ensures) (entry .pre .0) (entry .pre .1) .dirty-room
 
 sub-listing-4 : tie.Need-sub-listing-4
 sub-listing-4 c = zero-le
@@ -65,13 +65,13 @@ part-listing-end-4 : tie.Need-part-listing-end-4
 part-listing-end-4 c =
     let read = c .before .before .before .before in
     let entry = read .before .before .before .before .before .before .before .before in
-    fitting (entry .args .file .now) (read .before .geometry .ensures) (read .steps .ensures) (entry .pre .0) (entry .pre .1) .words-room
+    fitting (entry .args .file .now) (read .before .named .ensures) (read .steps .ensures) (entry .pre .0) (entry .pre .1) .words-room
 
 listing-requires : tie.Need-listing-requires
 listing-requires c κs =
     let read = c .before .before .before .before .before .before in
     let entry = read .before .before .before .before .before .before .before .before in
-    let room = fitting (entry .args .file .now) (read .before .geometry .ensures) (read .steps .ensures) (entry .pre .0) (entry .pre .1) in
+    let room = fitting (entry .args .file .now) (read .before .named .ensures) (read .steps .ensures) (entry .pre .0) (entry .pre .1) in
     (room .stands, (lent-sized room, (room .few-steps, room .out-room)))
 
 same-length : tie.Need-same-length
@@ -97,7 +97,7 @@ returns c =
     let new = listed .last .1 .1 .1 in
     let kept = listed .kept .1 .1 .1 in
     listed-is (entry .args .file .now) (tablesOf (new .0) (new .1 .0) (new .1 .1 .0) (new .1 .1 .1 .0))
-    (read .before .geometry .ensures) (read .steps .ensures) (entry .pre .0) (entry .pre .1)
+    (read .before .named .ensures) (read .steps .ensures) (entry .pre .0) (entry .pre .1)
     (λ j. record { tags = kept .0 j; valid = kept .1 .0 j; dirty = kept .1 .1 .0 j; words = kept .1 .1 .1 .0 j })
     (listed .ensures .0) (listed .ensures .1)
 
@@ -105,7 +105,7 @@ pub list-file-spec : {M : Type 1} → statement M
 list-file-spec =
     tie.close
     (tie.spec
-    geometry-requires
+    named-requires
     steps-requires
     mul-cells
     sub-listing

@@ -32,15 +32,15 @@ returns-3 c =
     let named = c .before .before in
     bad-steps (named .before .before .before .args .file .now) (named .steps .ensures) (named .before .if1 .left) (c .before .if2 .left) (c .if3 .taken)
 
-geometry-requires : tie.Need-geometry-requires
-geometry-requires c κs = search needs
+named-requires : tie.Need-named-requires
+named-requires c κs = search needs
 
 returns-4 : tie.Need-returns-4
 returns-4 c =
     let read = c .before .before in
     let named = read .before .before .before in
     bad-sets (named .before .before .before .args .file .now) (named .steps .ensures) (named .before .if1 .left) (read .before .before .if2 .left)
-    (read .before .if3 .left) (read .geometry .ensures) (c .if4 .taken)
+    (read .before .if3 .left) (read .named .ensures) (c .if4 .taken)
 
 within-requires : tie.Need-within-requires
 within-requires c κs = search needs
@@ -52,7 +52,7 @@ by-limits c =
     let read = c .before .before .before in
     let named = read .before .before .before in
     good-file (named .before .before .before .args .file .now) (named .steps .ensures) (named .before .if1 .left) (read .before .before .if2 .left)
-    (read .before .if3 .left) (read .geometry .ensures) (c .before .if4 .left) (c .within .ensures)
+    (read .before .if3 .left) (read .named .ensures) (c .before .if4 .left) (c .within .ensures)
 
 returns-5 : tie.Need-returns-5
 returns-5 c = ap (λ (b : Bool). cond (not b) 1 0) (sym (c .if5 .taken)) ∙ by-limits (c .before)
@@ -71,7 +71,7 @@ refusal-spec =
     add-if2
     returns-2
     returns-3
-    geometry-requires
+    named-requires
     returns-4
     within-requires
     returns-5

@@ -1,0 +1,5 @@
+-- The laws that the crates above cite.
+pub mod FieldLaws
+pub mod DigitLaws
+pub mod CutLaws
+pub mod TableLaws

@@ -1,0 +1,2 @@
+-- Little-endian numbers in bytes.
+pub mod Bytes
