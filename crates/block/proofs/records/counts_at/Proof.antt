@@ -1,0 +1,61 @@
+-- `block::records::counts_at` meets its contract.
+use mathlib.Core.Path.{ap, _∙_}
+use mathlib.Core.List.{append-nil}
+use Rattle.block.specs.Layout.{countsFrom, countsIn}
+use borrow.Author.Needs.{needs}
+use Rattle.block.proofs.records.counts_at.Statement.{statement}
+use Rattle.block.proofs.records.counts_at.Tie as tie
+
+sub-load-counts : tie.Need-sub-load-counts
+sub-load-counts c = search needs
+
+part-c-start : tie.Need-part-c-start
+part-c-start c = search needs
+
+part-c-end : tie.Need-part-c-end
+part-c-end c = search needs
+
+load-counts-requires : tie.Need-load-counts-requires
+load-counts-requires c κs = search needs
+
+array-read-t12 : tie.Need-array-read-t12
+array-read-t12 c = search needs
+
+array-read-t15 : tie.Need-array-read-t15
+array-read-t15 c = search needs
+
+array-read-t18 : tie.Need-array-read-t18
+array-read-t18 c = search needs
+
+array-read-t21 : tie.Need-array-read-t21
+array-read-t21 c = search needs
+
+array-read-t24 : tie.Need-array-read-t24
+array-read-t24 c = search needs
+
+array-read-t27 : tie.Need-array-read-t27
+array-read-t27 c = search needs
+
+array-read-t30 : tie.Need-array-read-t30
+array-read-t30 c = search needs
+
+returns : tie.Need-returns
+unfolding countsIn countsFrom
+returns c = ap countsFrom (append-nil (c .before .load-counts .last .1 .1 .0) ∙ c .before .load-counts .ensures)
+
+pub counts-at-spec : {M : Type 1} → statement M
+counts-at-spec =
+    tie.close
+    (tie.spec
+    sub-load-counts
+    part-c-start
+    part-c-end
+    load-counts-requires
+    array-read-t12
+    array-read-t15
+    array-read-t18
+    array-read-t21
+    array-read-t24
+    array-read-t27
+    array-read-t30
+    returns)

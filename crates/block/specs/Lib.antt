@@ -1,0 +1,4 @@
+-- The block of bytes that a testbench lends: document 02, job 7.
+pub mod Layout
+pub mod Block
+pub mod Inside
