@@ -1,5 +1,4 @@
 -- The laws that the functions' proofs cite.
-pub mod RunLaws
 pub mod PartLaws
 pub mod SetLaws
 pub mod DomainLaws

@@ -4,7 +4,6 @@ mod layout;
 mod make;
 mod records;
 mod reply;
-mod runs;
 mod sets;
 mod work;
 

@@ -1,6 +1,5 @@
 // The domains of a block: their maps and counts.
 use crate::layout;
-use crate::runs;
 use domains::Counts;
 use domains::Domain;
 use domains::Policies;
@@ -21,7 +20,7 @@ fn counts_at(block: &[u8], at: usize) -> Counts
     ensures { λ r. ⌜ r ≡ countsIn (drop at (now (block .entry))) ⌝ }
 {
     let mut c = [0u32; 7];
-    runs::load_counts(block, at, &mut c[0..7]);
+    endian::read_u32s(block, at, &mut c[0..7]);
     Counts {
         hits: c[0],
         misses: c[1],
@@ -46,7 +45,7 @@ fn put_counts(block: &mut [u8], at: usize, c: Counts)
         c.fills,
         c.dropped,
     ];
-    runs::store_counts(block, at, &all[0..7]);
+    endian::put_u32s(block, at, &all[0..7]);
 }
 
 // The record of a domain.

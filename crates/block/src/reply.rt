@@ -1,5 +1,4 @@
 // The answer as bytes.
-use crate::runs;
 use command::Answer;
 ghost use mathlib.Core.Path.{_≡_};
 ghost use mathlib.Core.Bool.{cond};
@@ -53,6 +52,6 @@ pub fn put(answer: &mut [u8], told: Answer) -> u64
     if answer.len() != 32 {
         return number(word, first);
     }
-    runs::store(answer, 0, &fields[0..4]);
+    endian::put_u64s(answer, 0, &fields[0..4]);
     number(word, first)
 }

@@ -1,7 +1,6 @@
 // The work on the sets of a block: a set's row is taken out, worked on and put back.
 use crate::layout;
 use crate::layout::Places;
-use crate::runs;
 use command::Answer;
 use command::LineUse;
 use geometry::Geometry;
@@ -51,10 +50,10 @@ fn use_row(
     requires { ⌜ at .row + 8 * length (now row) ≤ length (now block) ⌝ }
     ensures { λ r. ⌜ RowWorked at (useOf usage rule maps tag) (length (now (row .entry))) (now (block .entry)) r (now (block .exit)) ⌝ }
 {
-    runs::load(block, at.row, row);
+    endian::read_u64s(block, at.row, row);
     let lines = lines_at(block, at);
     let done = row::use_line(row, lines, rule, maps, usage, tag);
-    runs::store(block, at.row, row);
+    endian::put_u64s(block, at.row, row);
     put_lines(block, at, done.lines);
     done.answer
 }
@@ -78,10 +77,10 @@ fn sweep_row(block: &mut [u8], row: &mut [u64], at: Places, sweep: Sweep) -> Ans
     requires { ⌜ at .row + 8 * length (now row) ≤ length (now block) ⌝ }
     ensures { λ r. ⌜ RowWorked at (sweepBy sweep) (length (now (row .entry))) (now (block .entry)) r (now (block .exit)) ⌝ }
 {
-    runs::load(block, at.row, row);
+    endian::read_u64s(block, at.row, row);
     let lines = lines_at(block, at);
     let done = sweep::swept(row, lines, sweep);
-    runs::store(block, at.row, row);
+    endian::put_u64s(block, at.row, row);
     put_lines(block, at, done.lines);
     done.answer
 }

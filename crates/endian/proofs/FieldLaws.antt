@@ -56,6 +56,12 @@ field-short n i bytes h =
     let long : length (drop i bytes) ≡ length bytes - i = length-drop i bytes in
     ap value (take-all n (drop i bytes) (omega arith) ∙ sym (take-all (length bytes - i) (drop i bytes) (omega arith)))
 
+-- Behind the end there is none.
+pub field-behind : (n i : ℕ) (bytes : List ℕ) → length bytes ≤ i → 0 ≡ field i n bytes
+field-behind n i bytes h =
+    let none : length bytes - i ≡ 0 = omega arith in
+    sym (field-short n i bytes (omega arith) ∙ ap (λ (k : ℕ). field i k bytes) none ∙ field-none bytes i)
+
 -- A number sees no byte behind it.
 pub field-front : (i n k : ℕ) (bytes : List ℕ) → i + n ≤ k → field i n (take k bytes) ≡ field i n bytes
 unfolding field

@@ -3,3 +3,4 @@ pub mod FieldLaws
 pub mod DigitLaws
 pub mod CutLaws
 pub mod TableLaws
+pub mod RunLaws

@@ -1,8 +1,10 @@
 -- `block::make::put_words` meets its contract. The invariant: what was put and what is left to put make the whole.
-use Prim.Native.Nat.{_-_}
+use mathlib.Core.Path.{_∙_}
+use Prim.Native.Nat.{_+_, _-_, _*_}
 use native.Mathlib.Omega.{arith}
 use lib.ListN.{replicate, length-replicate, getD-replicate}
-use Rattle.block.proofs.RunLaws.{Storing, store-begin, store-turned, store-end}
+use Rattle.endian.proofs.DigitLaws.{put-whole}
+use Rattle.endian.proofs.RunLaws.{Storing, store-begin, store-turned, store-end}
 use Rattle.block.proofs.make.put_words.Statement.{statement}
 use Rattle.block.proofs.make.put_words.Tie as tie
 
@@ -37,8 +39,9 @@ loop-again c =
     let a = entry .args in
     let set = test .before .loop .set in
     let word = getD-replicate (a .sets) set (a .word) 0 (test .loop-test .taken) in
-    store-turned (test .before .loop .inv) (rw (length-replicate (a .sets) (a .word)) (test .loop-test .taken))
-    (rw (length-replicate (a .sets) (a .word)) (entry .pre)) (rw word (c .before .before .put-u64 .ensures))
+    let put = c .before .before .put-u64 .ensures ∙ put-whole (a .at + 8 * set) 8 (a .word) (test .before .loop .block)
+    (omega (arith, test .before .loop .inv .long, entry .pre, test .loop-test .taken)) in
+    store-turned (test .before .loop .inv) (rw (length-replicate (a .sets) (a .word)) (test .loop-test .taken)) (rw word put)
 
 same-length : tie.Need-same-length Inv-loop μ-loop
 same-length c = c .before .loop .inv .long

@@ -1,13 +1,17 @@
 -- `block::records::counts_at` meets its contract.
 use mathlib.Core.Path.{ap, _∙_}
-use mathlib.Core.List.{append-nil}
+use mathlib.Core.List.{List, append-nil}
+use Prim.Native.Nat.{ℕ}
+use native.Mathlib.Omega.{arith}
+use lib.ListN.{replicate}
+use Rattle.endian.proofs.RunLaws.{run-read}
 use Rattle.block.specs.Layout.{countsFrom, countsIn}
 use borrow.Author.Needs.{needs}
 use Rattle.block.proofs.records.counts_at.Statement.{statement}
 use Rattle.block.proofs.records.counts_at.Tie as tie
 
-sub-load-counts : tie.Need-sub-load-counts
-sub-load-counts c = search needs
+sub-read-u32s : tie.Need-sub-read-u32s
+sub-read-u32s c = search needs
 
 part-c-start : tie.Need-part-c-start
 part-c-start c = search needs
@@ -15,8 +19,8 @@ part-c-start c = search needs
 part-c-end : tie.Need-part-c-end
 part-c-end c = search needs
 
-load-counts-requires : tie.Need-load-counts-requires
-load-counts-requires c κs = search needs
+read-u32s-requires : tie.Need-read-u32s-requires
+read-u32s-requires c κs = search needs
 
 array-read-t12 : tie.Need-array-read-t12
 array-read-t12 c = search needs
@@ -41,16 +45,22 @@ array-read-t30 c = search needs
 
 returns : tie.Need-returns
 unfolding countsIn countsFrom
-returns c = ap countsFrom (append-nil (c .before .load-counts .last .1 .1 .0) ∙ c .before .load-counts .ensures)
+returns c =
+    let entry = c .before .before .before .before in
+    let a = entry .args in
+    let zeros : List ℕ = replicate 7 0 in
+    ap countsFrom
+    (append-nil (c .before .read-u32s .last .1 .1 .0)
+    ∙ c .before .read-u32s .ensures ∙ run-read (a .at) 4 (a .block .now) zeros (omega (arith, entry .pre)))
 
 pub counts-at-spec : {M : Type 1} → statement M
 counts-at-spec =
     tie.close
     (tie.spec
-    sub-load-counts
+    sub-read-u32s
     part-c-start
     part-c-end
-    load-counts-requires
+    read-u32s-requires
     array-read-t12
     array-read-t15
     array-read-t18

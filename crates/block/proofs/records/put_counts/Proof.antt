@@ -1,35 +1,41 @@
 -- `block::records::put_counts` meets its contract.
-use Rattle.block.specs.Layout.{countsBytes}
+use mathlib.Core.Path.{_∙_}
+use native.Mathlib.Omega.{arith}
+use Rattle.endian.proofs.RunLaws.{run-put}
+use Rattle.block.specs.Layout.{sevenOf, countsBytes}
 use borrow.Author.Needs.{needs}
 use Rattle.block.proofs.records.put_counts.Statement.{statement}
 use Rattle.block.proofs.records.put_counts.Tie as tie
 
-sub-store-counts : tie.Need-sub-store-counts
-sub-store-counts c = search needs
+sub-put-u32s : tie.Need-sub-put-u32s
+sub-put-u32s c = search needs
 
-part-store-counts-start : tie.Need-part-store-counts-start
-part-store-counts-start c = search needs
+part-put-u32s-start : tie.Need-part-put-u32s-start
+part-put-u32s-start c = search needs
 
-part-store-counts-end : tie.Need-part-store-counts-end
-part-store-counts-end c = search needs
+part-put-u32s-end : tie.Need-part-put-u32s-end
+part-put-u32s-end c = search needs
 
-store-counts-requires : tie.Need-store-counts-requires
-store-counts-requires c κs = search needs
+put-u32s-requires : tie.Need-put-u32s-requires
+put-u32s-requires c κs = search needs
 
 same-length : tie.Need-same-length
 same-length c = search needs
 
 returns : tie.Need-returns
 unfolding countsBytes
-returns c = c .before .before .store-counts .ensures
+returns c =
+    let entry = c .before .before .before .before .before .before .before in
+    let a = entry .args in
+    c .before .before .put-u32s .ensures ∙ run-put (a .at) 4 (a .block .now) (sevenOf (a .c)) (omega (arith, entry .pre))
 
 pub put-counts-spec : {M : Type 1} → statement M
 put-counts-spec =
     tie.close
     (tie.spec
-    sub-store-counts
-    part-store-counts-start
-    part-store-counts-end
-    store-counts-requires
+    sub-put-u32s
+    part-put-u32s-start
+    part-put-u32s-end
+    put-u32s-requires
     same-length
     returns)

@@ -22,17 +22,17 @@ returns c =
     let a = c .before .before .before .before .args in
     reply-other (answerOf (a .told)) (a .answer .now) (c .before .before .fields-of .ensures) (c .number .ensures) (c .before .if1 .taken)
 
-sub-store : tie.Need-sub-store
-sub-store c = search needs
+sub-put-u64s : tie.Need-sub-put-u64s
+sub-put-u64s c = search needs
 
-part-store-start : tie.Need-part-store-start
-part-store-start c = search needs
+part-put-u64s-start : tie.Need-part-put-u64s-start
+part-put-u64s-start c = search needs
 
-part-store-end : tie.Need-part-store-end
-part-store-end c = search needs
+part-put-u64s-end : tie.Need-part-put-u64s-end
+part-put-u64s-end c = search needs
 
-store-requires : tie.Need-store-requires
-store-requires c κs = search needs
+put-u64s-requires : tie.Need-put-u64s-requires
+put-u64s-requires c κs = search needs
 
 number-requires-2 : tie.Need-number-requires-2
 number-requires-2 c κs = search needs
@@ -45,7 +45,8 @@ returns-2 c =
     let stored = c .before .before .before in
     let tested = stored .before .before .before .before in
     let a = tested .before .before .before .args in
-    reply-written (answerOf (a .told)) (a .answer .now) (tested .before .fields-of .ensures) (c .number2 .ensures) (tested .if1 .left) (stored .store .ensures)
+    reply-written (answerOf (a .told)) (a .answer .now) (tested .before .fields-of .ensures) (c .number2 .ensures)
+    (tested .if1 .left) (stored .put-u64s .ensures)
 
 pub put-spec : {M : Type 1} → statement M
 put-spec =
@@ -56,10 +57,10 @@ put-spec =
     array-read-first
     number-requires
     returns
-    sub-store
-    part-store-start
-    part-store-end
-    store-requires
+    sub-put-u64s
+    part-put-u64s-start
+    part-put-u64s-end
+    put-u64s-requires
     number-requires-2
     same-length
     returns-2)

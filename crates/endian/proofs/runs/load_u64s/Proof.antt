@@ -1,10 +1,10 @@
--- `block::runs::load` meets its contract. The invariant: the first numbers are there.
+-- `endian::runs::load_u64s` meets its contract. The invariant: the first numbers are there.
 use Prim.Native.Nat.{_-_}
 use native.Mathlib.Omega.{arith}
 use lib.ListN.{length, length-set}
-use Rattle.block.proofs.RunLaws.{Loading, load-begin, load-turned, load-end}
-use Rattle.block.proofs.runs.load.Statement.{statement}
-use Rattle.block.proofs.runs.load.Tie as tie
+use Rattle.endian.proofs.RunLaws.{Loading, load-begin, load-turned, load-end}
+use Rattle.endian.proofs.runs.load_u64s.Statement.{statement}
+use Rattle.endian.proofs.runs.load_u64s.Tie as tie
 
 abbrev Inv-loop : tie.InvT-loop
 Inv-loop bytes at numbers₀ i₀ numbers i = Loading 8 bytes at (length numbers₀) numbers i
@@ -15,14 +15,14 @@ abbrev μ-loop : tie.MeasureT-loop
 loop-holds : tie.Need-loop-holds Inv-loop μ-loop
 loop-holds c = load-begin 8 _ _ _
 
-mul-u64-at : tie.Need-mul-u64-at Inv-loop μ-loop
-mul-u64-at c = omega (arith, c .before .loop .inv .long, c .before .before .before .before .pre)
+mul-eight : tie.Need-mul-eight Inv-loop μ-loop
+mul-eight c = omega (arith, c .before .loop .inv .long, c .before .before .before .before .pre)
 
-add-u64-at : tie.Need-add-u64-at Inv-loop μ-loop
-add-u64-at c = omega (arith, c .before .loop .inv .long, c .before .before .before .before .pre, c .before .before .before .before .good .0 .0)
+add-eight : tie.Need-add-eight Inv-loop μ-loop
+add-eight c = omega (arith, c .before .loop .inv .long, c .before .before .before .before .pre, c .before .before .before .before .good .0 .0)
 
-u64-at-requires : tie.Need-u64-at-requires Inv-loop μ-loop
-u64-at-requires c κs = tt
+eight-requires : tie.Need-eight-requires Inv-loop μ-loop
+eight-requires c κs = omega (arith, c .before .loop .inv .long, c .loop-test .taken, c .before .before .before .before .pre)
 
 mul-numbers : tie.Need-mul-numbers Inv-loop μ-loop
 mul-numbers c = omega arith
@@ -37,7 +37,7 @@ loop-less : tie.Need-loop-less Inv-loop μ-loop
 loop-less c = simp length-set (omega (arith, c .before .loop-test .taken))
 
 loop-again : tie.Need-loop-again Inv-loop μ-loop
-loop-again c = load-turned (c .before .before .loop .inv) (c .before .loop-test .taken) (c .u64-at .ensures)
+loop-again c = load-turned (c .before .before .loop .inv) (c .before .loop-test .taken) (c .eight .ensures)
 
 same-length : tie.Need-same-length Inv-loop μ-loop
 same-length c = c .before .loop .inv .long
@@ -45,16 +45,16 @@ same-length c = c .before .loop .inv .long
 returns : tie.Need-returns Inv-loop μ-loop
 returns c = load-end (c .before .loop .inv) (c .loop-test .left)
 
-pub load-spec : {M : Type 1} → statement M
-load-spec =
+pub load-u64s-spec : {M : Type 1} → statement M
+load-u64s-spec =
     tie.close
     (tie.spec
     Inv-loop
     μ-loop
     loop-holds
-    mul-u64-at
-    add-u64-at
-    u64-at-requires
+    mul-eight
+    add-eight
+    eight-requires
     mul-numbers
     slice-write-numbers
     add-i

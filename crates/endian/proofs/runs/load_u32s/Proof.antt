@@ -1,10 +1,10 @@
--- `block::runs::load_counts` meets its contract. The invariant: the first numbers are there.
+-- `endian::runs::load_u32s` meets its contract. The invariant: the first numbers are there.
 use Prim.Native.Nat.{_-_}
 use native.Mathlib.Omega.{arith}
 use lib.ListN.{length, length-set}
-use Rattle.block.proofs.RunLaws.{Loading, load-begin, load-turned, load-end}
-use Rattle.block.proofs.runs.load_counts.Statement.{statement}
-use Rattle.block.proofs.runs.load_counts.Tie as tie
+use Rattle.endian.proofs.RunLaws.{Loading, load-begin, load-turned, load-end}
+use Rattle.endian.proofs.runs.load_u32s.Statement.{statement}
+use Rattle.endian.proofs.runs.load_u32s.Tie as tie
 
 abbrev Inv-loop : tie.InvT-loop
 Inv-loop bytes at numbers₀ i₀ numbers i = Loading 4 bytes at (length numbers₀) numbers i
@@ -15,14 +15,14 @@ abbrev μ-loop : tie.MeasureT-loop
 loop-holds : tie.Need-loop-holds Inv-loop μ-loop
 loop-holds c = load-begin 4 _ _ _
 
-mul-u32-at : tie.Need-mul-u32-at Inv-loop μ-loop
-mul-u32-at c = omega (arith, c .before .loop .inv .long, c .before .before .before .before .pre)
+mul-four : tie.Need-mul-four Inv-loop μ-loop
+mul-four c = omega (arith, c .before .loop .inv .long, c .before .before .before .before .pre)
 
-add-u32-at : tie.Need-add-u32-at Inv-loop μ-loop
-add-u32-at c = omega (arith, c .before .loop .inv .long, c .before .before .before .before .pre, c .before .before .before .before .good .0 .0)
+add-four : tie.Need-add-four Inv-loop μ-loop
+add-four c = omega (arith, c .before .loop .inv .long, c .before .before .before .before .pre, c .before .before .before .before .good .0 .0)
 
-u32-at-requires : tie.Need-u32-at-requires Inv-loop μ-loop
-u32-at-requires c κs = tt
+four-requires : tie.Need-four-requires Inv-loop μ-loop
+four-requires c κs = omega (arith, c .before .loop .inv .long, c .loop-test .taken, c .before .before .before .before .pre)
 
 mul-numbers : tie.Need-mul-numbers Inv-loop μ-loop
 mul-numbers c = omega arith
@@ -37,7 +37,7 @@ loop-less : tie.Need-loop-less Inv-loop μ-loop
 loop-less c = simp length-set (omega (arith, c .before .loop-test .taken))
 
 loop-again : tie.Need-loop-again Inv-loop μ-loop
-loop-again c = load-turned (c .before .before .loop .inv) (c .before .loop-test .taken) (c .u32-at .ensures)
+loop-again c = load-turned (c .before .before .loop .inv) (c .before .loop-test .taken) (c .four .ensures)
 
 same-length : tie.Need-same-length Inv-loop μ-loop
 same-length c = c .before .loop .inv .long
@@ -45,16 +45,16 @@ same-length c = c .before .loop .inv .long
 returns : tie.Need-returns Inv-loop μ-loop
 returns c = load-end (c .before .loop .inv) (c .loop-test .left)
 
-pub load-counts-spec : {M : Type 1} → statement M
-load-counts-spec =
+pub load-u32s-spec : {M : Type 1} → statement M
+load-u32s-spec =
     tie.close
     (tie.spec
     Inv-loop
     μ-loop
     loop-holds
-    mul-u32-at
-    add-u32-at
-    u32-at-requires
+    mul-four
+    add-four
+    four-requires
     mul-numbers
     slice-write-numbers
     add-i

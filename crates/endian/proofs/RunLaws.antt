@@ -2,17 +2,17 @@
 use mathlib.Core.Path.{_≡_, refl, sym, ap, _∙_}
 use mathlib.Core.List.{List, _∷_}
 use Prim.Native.Nat.{ℕ, _+_, _-_, _*_, _≤_, _<_}
-use native.Mathlib.Nat.{mul-suc, mul-comm, mul-le-mul-left, mul-zero, add-zero}
+use native.Mathlib.Nat.{mul-suc, mul-comm, mul-zero, add-zero}
 use native.Mathlib.Numerals.{add-one}
 use native.Mathlib.Omega.{arith}
 use lib.Dec.{eqb}
 use lib.ListN.{length, getD, drop, set, length-set, drop-of-length-le}
 use lib.Seq.{sets, length-sets, drop-cons, drop-drop, ext-getD, getD-set-same, getD-set-other}
-use borrow.Author.Tests.{eqb-true, eqb-false}
+use borrow.Author.Tests.{eqb-true, eqb-false, le-leb, lt-leb}
 use Rattle.waymap.proofs.Booleans.{cases}
-use Rattle.endian.specs.Bytes.{digits, field, putField, numbers, joined, bytesOf}
-use Rattle.endian.proofs.DigitLaws.{digits-long, sets-append, put-whole}
+use Rattle.endian.specs.Bytes.{digits, field, numbers, joined, bytesOf, readRun, putRun}
+use Rattle.endian.proofs.DigitLaws.{digits-long, sets-append}
 use Rattle.endian.proofs.TableLaws.{number-at, numbers-long}
 
 -- ---- taken out
 
@@ -56,15 +56,13 @@ pub store-begin : (n : ℕ) (bytes : List ℕ) (at : ℕ) (xs : List ℕ) → St
 store-begin n bytes at xs = record { within = omega arith; long = refl; is = rw (mul-zero n, add-zero at) }
 
 pub store-turned : {n : ℕ} {before : List ℕ} {at : ℕ} {xs bytes : List ℕ} {i : ℕ} {after : List ℕ} → Storing n before at xs bytes i
-    → i < length xs → at + n * length xs ≤ length before → after ≡ putField (at + n * i) n (getD xs i 0) bytes
+    → i < length xs → after ≡ sets bytes (at + n * i) (digits n (getD xs i 0))
     → Storing n before at xs after (i + 1)
 unfolding bytesOf joined
-store-turned {n} {before} {at} {xs} {bytes} {i} {after} l h room e =
+store-turned {n} {before} {at} {xs} {bytes} {i} {after} l h put =
     let v : ℕ = getD xs i 0 in
     let place : ℕ = at + n * i in
     let more : n * (i + 1) ≡ n * i + n = rw (add-one i, mul-suc n i) in
-    let last : n * (i + 1) ≤ n * length xs = mul-le-mul-left n (omega arith) in
-    let put : after ≡ sets bytes place (digits n v) = e ∙ put-whole place n v bytes (omega (arith, l .long)) in
     let next : at + n * (i + 1) ≡ place + n = omega arith in
     let rest : List ℕ = bytesOf n (drop (i + 1) xs) in
     let split : drop i xs ≡ v ∷ drop (i + 1) xs = rw (add-one i) (drop-cons xs i 0 h) in
@@ -86,3 +84,22 @@ unfolding bytesOf joined
 store-end {n} {before} {at} {xs} {bytes} {i} l h =
     let last : sets bytes (at + n * i) (bytesOf n (drop i xs)) ≡ bytes = rw (drop-of-length-le xs h) in
     sym last ∙ l .is
+
+-- ---- where there is room
+
+module _ (i n : ℕ) (bytes xs : List ℕ) where
+  pub run-read : n * length xs ≤ length bytes - i → readRun i n bytes xs ≡ numbers n (length xs) (drop i bytes)
+  unfolding readRun
+  run-read h = rw (le-leb (n * length xs) (length bytes - i) h)
+
+  pub run-unread : length bytes - i < n * length xs → readRun i n bytes xs ≡ xs
+  unfolding readRun
+  run-unread h = rw (lt-leb (n * length xs) (length bytes - i) h)
+
+  pub run-put : n * length xs ≤ length bytes - i → putRun i n xs bytes ≡ sets bytes i (bytesOf n xs)
+  unfolding putRun
+  run-put h = rw (le-leb (n * length xs) (length bytes - i) h)
+
+  pub run-left : length bytes - i < n * length xs → putRun i n xs bytes ≡ bytes
+  unfolding putRun
+  run-left h = rw (lt-leb (n * length xs) (length bytes - i) h)
