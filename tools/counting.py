@@ -20,6 +20,7 @@ HALF = WAYS // 2
 WHOLE = (1 << WAYS) - 1
 UPPER = WHOLE - ((1 << HALF) - 1)  # the map of domain 1 at first; that of domain 0 is the lower half
 RULES = [(0, "Tree-PLRU"), (1, "NRU"), (2, "LRU")]
+COUNTS = "callgrind.out"  # the file that callgrind leaves in the directory
 TOTAL = re.compile(rb"^totals: (\d+)$", re.MULTILINE)
 
 
@@ -130,13 +131,16 @@ def need_valgrind(option):
         raise Problem(f"{option} needs valgrind, and there is none; Debian has it in the package valgrind")
 
 
-def instructions(program, data, directory, arguments=()):
-    """How many instructions a program takes for a file. It reads a file, not a pipe, which could bring it in pieces."""
-    given, counts = directory / "trace", directory / "callgrind.out"
+def instructions(program, data, directory, arguments=(), toggles=()):
+    """How many instructions a program takes for a file; or, with functions at whose entry and exit the counting is
+    turned on or off, so many of them. It reads a file, not a pipe, which could bring it in pieces."""
+    given, counts = directory / "trace", directory / COUNTS
     given.write_bytes(data)
-    command = ["valgrind", "-q", "--vgdb=no", "--tool=callgrind", f"--callgrind-out-file={counts}", program]
+    command = ["valgrind", "-q", "--vgdb=no", "--tool=callgrind", f"--callgrind-out-file={counts}"]
+    only = [f"--toggle-collect={function}" for function in toggles]
     with open(given, "rb") as file:
-        done = subprocess.run([*command, *arguments], stdin=file, stdout=subprocess.DEVNULL, stderr=subprocess.PIPE)
+        done = subprocess.run([*command, *only, program, *arguments], stdin=file, stdout=subprocess.DEVNULL,
+                              stderr=subprocess.PIPE)
     if done.returncode != 0:
         ending = describe_ending(Outcome(done.returncode, b"", done.stderr))
         raise Problem(f"cannot count the instructions of {short_path(program)}: under valgrind it ends with {ending}")

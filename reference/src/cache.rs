@@ -21,6 +21,14 @@ pub struct Cache {
     domains: Domains,
 }
 
+/// The four tables of a cache.
+pub struct Tables {
+    pub valid: Vec<Map>,
+    pub dirty: Vec<Map>,
+    pub replacement: Vec<u64>,
+    pub tags: Vec<u64>,
+}
+
 impl Cache {
     /// "Fresh: all zero", but for what the rule puts into the replacement words. "All policies and counts are zero."
     pub fn fresh(geometry: Geometry) -> Cache {
@@ -37,6 +45,18 @@ impl Cache {
     /// Lent domains, and lent valid and dirty maps, one of each for every set. All tags and replacement words are zero.
     pub fn lent(geometry: Geometry, valid: Vec<Map>, dirty: Vec<Map>, domains: Domains) -> Cache {
         Cache { valid, dirty, replacement: vec![0; geometry.sets], domains, ..Cache::fresh(geometry) }
+    }
+
+    /// Lent domains and tables, which are of the lengths that the geometry gives.
+    pub fn of_tables(geometry: Geometry, tables: Tables, domains: Domains) -> Cache {
+        let Tables { valid, dirty, replacement, tags } = tables;
+        Cache { geometry, tags, valid, dirty, replacement, domains }
+    }
+
+    /// The tables and domains as they are now.
+    pub fn into_tables(self) -> (Tables, Domains) {
+        let Cache { tags, valid, dirty, replacement, domains, .. } = self;
+        (Tables { valid, dirty, replacement, tags }, domains)
     }
 
     pub fn domains(&self) -> &Domains {

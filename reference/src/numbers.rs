@@ -1,10 +1,10 @@
 //! "When a step is turned down": the numbers. What is asked for each of them stands where it is asked: number 10 in
-//! `trace`, 1 in `geometry`, 11 in `cores` with 3 and 5 of a selector write, the others in `refusals`; 5 and 9 of the
-//! rules called alone in `rules`. By document 02, "1 moves to the new limit" of sets, 7 and 10 have one more reason
-//! each, and 11 is new.
+//! `trace`, 1 in `geometry`, 11 in `cores` with 3 and 5 of a selector write, 12 in `block`, the others in `refusals`; 5
+//! and 9 of the rules called alone in `rules`. By document 02, "1 moves to the new limit" of sets, 7 and 10 have one
+//! more reason each, and 11 and 12 are new.
 
-/// The refusals that a trace file can meet, each with its number. (`CountSpent` is met with lent counts alone: from a
-/// fresh cache no file of 4,096 steps reaches it.)
+/// The refusals that a trace file or a block can meet, each with its number. (`CountSpent` is met with lent counts
+/// alone: from a fresh cache no file of 4,096 steps reaches it. `Block` is met with a block alone.)
 #[derive(Clone, Copy, PartialEq, Eq, Debug)]
 pub enum Refusal {
     /// "Geometry outside the limits."
@@ -29,6 +29,9 @@ pub enum Refusal {
     TraceFile = 10,
     /// By document 02, "11, a list too long or, for these kinds, a core not in it, checked after 2 and before 3".
     Core = 11,
+    /// By document 02, "12, block or answer of a wrong length, or at a step a zero byte that is not zero, checked after
+    /// 1, though a block under 8 bytes is 12 before all else".
+    Block = 12,
 }
 
 impl Refusal {
