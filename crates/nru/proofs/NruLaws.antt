@@ -6,7 +6,8 @@ use lib.Dec.{eqb}
 use borrow.Author.Tests.{eqb-true}
 use Rattle.waymap.specs.Bits.{Bits, any}
 use Rattle.waymap.proofs.Booleans.{cases, and-left}
-use Rattle.waymap.proofs.WayLaws.{any-ext, any-found, any-at, lowest-ext, lowest-found}
+use Rattle.waymap.proofs.WayLaws.{any-ext, any-found, any-at}
+use Rattle.waymap.proofs.EncoderLaws.{encode-ext, encode-found}
 use Rattle.nru.specs.Nru.{before, victim, touch}
 
 -- two words agree on the ways of a map
@@ -14,7 +15,7 @@ abbrev Agree : ℕ → Bits → Bits → Bits → Type 0
 Agree W m b c = (w : ℕ) → w < W → m w ≡ true → b w ≡ c w
 
 -- the word before the touch has a bit that is one in the map
-pub ready : (W : ℕ) (m b : Bits) → any W m ≡ true → any W (λ (w : ℕ). m w && before W m b w) ≡ true
+ready : (W : ℕ) (m b : Bits) → any W m ≡ true → any W (λ (w : ℕ). m w && before W m b w) ≡ true
 unfolding before
 ready W m b e =
     cases (any W (λ (v : ℕ). m v && b v))
@@ -26,7 +27,7 @@ ready W m b e =
 pub victim-in : (W : ℕ) (m b : Bits) → any W m ≡ true → (victim W m b < W) × (m (victim W m b) ≡ true)
 unfolding victim
 victim-in W m b e =
-    let r = lowest-found W (λ (w : ℕ). m w && before W m b w) (ready W m b e) in
+    let r = encode-found W (λ (w : ℕ). m w && before W m b w) (ready W m b e) in
     (r .0, and-left (m (victim W m b)) (before W m b (victim W m b)) (r .1))
 
 found-agrees : (W : ℕ) (m : Bits) {b c : Bits} → Agree W m b c → any W (λ (v : ℕ). m v && b v) ≡ any W (λ (v : ℕ). m v && c v)
@@ -38,7 +39,7 @@ before-agrees W m i e q = ap₂ (λ (a t : Bool). cond a t (m i || t)) (found-ag
 
 pub victim-agrees : (W : ℕ) (m : Bits) {b c : Bits} → Agree W m b c → victim W m b ≡ victim W m c
 unfolding victim
-victim-agrees W m e = lowest-ext W (λ i h. cases (m i) (λ t. rw t (before-agrees W m i e (e i h t))) (λ t. rw t))
+victim-agrees W m e = encode-ext W (λ i h. cases (m i) (λ t. rw t (before-agrees W m i e (e i h t))) (λ t. rw t))
 
 -- outside the map no bit moves
 pub before-stays : (W : ℕ) (m b : Bits) (i : ℕ) → m i ≡ false → before W m b i ≡ b i

@@ -7,14 +7,15 @@ use native.Mathlib.Omega.{arith}
 use lib.Dec.{eqb, ltb, lit≤}
 use lib.Bits.{bitAnd, bitOr, bitXor, and-le-l, or-lt, xor-lt}
 use borrow.Author.Tests.{eqb-true, ne-eqb, ltb-true, ltb-false, lt-ltb}
-use Rattle.waymap.specs.Bits.{Bits, bit, word, any, lowest}
+use Rattle.waymap.specs.Bits.{Bits, bit, word, any}
+use Rattle.waymap.specs.Encoder.{encode}
 use Rattle.waymap.proofs.Booleans.{cases, cleared, raised}
 use Rattle.waymap.proofs.BitLaws.{bit-and, bit-or, bit-xor, bit-not, bit-mod}
 use Rattle.waymap.proofs.WordLaws.{word-lt, bit-word, word-ext, from-bits, bit-high}
-use Rattle.waymap.proofs.WayLaws.{any-ext, any-bits, any-wider, lowest-ext, lowest-wider}
+use Rattle.waymap.proofs.WayLaws.{any-ext, any-bits, any-wider}
+use Rattle.waymap.proofs.EncoderLaws.{encode-ext, encode-wider}
 use Rattle.nru.specs.Nru.{before, victim, touch, changes, reset, fresh, own}
 use Rattle.nru.specs.Calls.{victimOf, touchOf, changeOf, resetOf, freshOf, ownOf}
-use Rattle.nru.proofs.NruLaws.{ready}
 
 -- ---- the victim
 
@@ -32,20 +33,20 @@ absorb false b = refl
 
 -- one of them is there
 pub some-way : (map x : ℕ) → map < 2 ^ 16 → (bitAnd map (x % 65536) ≡ 0 → ⊥)
-    → lowest 16 (bit (bitAnd map (x % 65536))) ≡ victim 16 (bit map) (bit x)
+    → encode 16 (bit (bitAnd map (x % 65536))) ≡ victim 16 (bit map) (bit x)
 unfolding victim before
 some-way map x h e =
-    lowest-ext 16 (λ i k. ones-bit map x i k ∙ rw (ones-any map x h ∙ ap not (ne-eqb (bitAnd map (x % 65536)) 0 e)))
+    encode-ext 16 (λ i k. ones-bit map x i k ∙ rw (ones-any map x h ∙ ap not (ne-eqb (bitAnd map (x % 65536)) 0 e)))
 
 pub some-word : (map x : ℕ) → map < 2 ^ 16 → x < 2 ^ 64 → (bitAnd map (x % 65536) ≡ 0 → ⊥) → x ≡ word 64 (before 16 (bit map) (bit x))
 unfolding before
 some-word map x h k e = from-bits 64 k (λ i l. rw (ones-any map x h ∙ ap not (ne-eqb (bitAnd map (x % 65536)) 0 e)))
 
 -- none is there
-pub no-way : (map x : ℕ) → map < 2 ^ 16 → bitAnd map (x % 65536) ≡ 0 → lowest 16 (bit map) ≡ victim 16 (bit map) (bit x)
+pub no-way : (map x : ℕ) → map < 2 ^ 16 → bitAnd map (x % 65536) ≡ 0 → encode 16 (bit map) ≡ victim 16 (bit map) (bit x)
 unfolding victim before
 no-way map x h e =
-    lowest-ext 16 (λ i k. rw (ones-any map x h ∙ ap (λ (n : ℕ). not (eqb n 0)) e) (sym (absorb (bit map i) (bit x i))))
+    encode-ext 16 (λ i k. rw (ones-any map x h ∙ ap (λ (n : ℕ). not (eqb n 0)) e) (sym (absorb (bit map i) (bit x i))))
 
 pub no-word : (map x : ℕ) → map < 2 ^ 16 → x < 2 ^ 64 → bitAnd map (x % 65536) ≡ 0 → bitOr x map ≡ word 64 (before 16 (bit map) (bit x))
 unfolding before
@@ -53,17 +54,17 @@ no-word map x h k e =
     from-bits 64 (or-lt 64 x map k (lt-of-lt-of-le h (lit≤ tt)))
     (λ i l. rw (ones-any map x h ∙ ap (λ (n : ℕ). not (eqb n 0)) e) (bit-or x map i ∙ or-comm (bit x i) (bit map i)))
 
--- the choice: `w` is the lowest of the ways that the call looks at
+-- the choice: `w` is what the encoder gives of the ways that the call looks at
 module _ (map x : ℕ) (h : map < 2 ^ 16) (k : x < 2 ^ 64) where
   chosen : {w y : ℕ} → w ≡ victim 16 (bit map) (bit x) → y ≡ word 64 (before 16 (bit map) (bit x)) → record { way = w; word = y } ≡ victimOf x map
   unfolding victimOf
   chosen e f = ap₂ (λ (v z : ℕ). record { way = v; word = z }) e f
 
-  pub some-chosen : {w : ℕ} → (bitAnd map (x % 65536) ≡ 0 → ⊥) → w ≡ lowest 16 (bit (bitAnd map (x % 65536)))
+  pub some-chosen : {w : ℕ} → (bitAnd map (x % 65536) ≡ 0 → ⊥) → w ≡ encode 16 (bit (bitAnd map (x % 65536)))
       → record { way = w; word = x } ≡ victimOf x map
   some-chosen e is = chosen (is ∙ some-way map x h e) (some-word map x h k e)
 
-  pub none-chosen : {w : ℕ} → bitAnd map (x % 65536) ≡ 0 → w ≡ lowest 16 (bit map) → record { way = w; word = bitOr x map } ≡ victimOf x map
+  pub none-chosen : {w : ℕ} → bitAnd map (x % 65536) ≡ 0 → w ≡ encode 16 (bit map) → record { way = w; word = bitOr x map } ≡ victimOf x map
   none-chosen e is = chosen (is ∙ no-way map x h e) (no-word map x h k e)
 
 -- ---- the number of ways
@@ -79,15 +80,15 @@ module _ (W map x : ℕ) (small : W ≤ 16) (h : map < 2 ^ W) where
   unfolding before
   before-width i = ap (λ (t : Bool). cond t (bit x i) (bit map i || bit x i)) found-width
 
-  -- of a map of W ways that is not empty, the call gives what the rule gives with W ways
-  pub choice-width : any W (bit map) ≡ true → victimOf x map ≡ record { way = victim W (bit map) (bit x); word = word 64 (before W (bit map) (bit x)) }
+  -- of a map of W ways the call gives what the rule gives with W ways
+  pub choice-width : victimOf x map ≡ record { way = victim W (bit map) (bit x); word = word 64 (before W (bit map) (bit x)) }
   unfolding victimOf victim
-  choice-width some = ap₂ (λ (w y : ℕ). record { way = w; word = y }) way-is (word-ext 64 (λ i l. before-width i))
+  choice-width = ap₂ (λ (w y : ℕ). record { way = w; word = y }) way-is (word-ext 64 (λ i l. before-width i))
     where
       way-is : victim 16 (bit map) (bit x) ≡ victim W (bit map) (bit x)
       way-is =
-          lowest-ext 16 (λ i k. ap (λ (t : Bool). bit map i && t) (before-width i))
-          ∙ lowest-wider W 16 (λ (w : ℕ). bit map w && before W (bit map) (bit x) w) small (ready W (bit map) (bit x) some)
+          encode-ext 16 (λ i k. ap (λ (t : Bool). bit map i && t) (before-width i))
+          ∙ encode-wider W 16 (λ (w : ℕ). bit map w && before W (bit map) (bit x) w) small (outside (before W (bit map) (bit x)))
 
 -- ---- touch, change of fill map, fresh
 

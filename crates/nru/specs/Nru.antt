@@ -2,7 +2,8 @@
 use mathlib.Core.Bool.{true, false, cond, _&&_, _||_, xor}
 use Prim.Native.Nat.{ℕ}
 use lib.Dec.{eqb, ltb}
-use Rattle.waymap.specs.Bits.{Bits, any, lowest}
+use Rattle.waymap.specs.Bits.{Bits, any}
+use Rattle.waymap.specs.Encoder.{encode}
 
 -- "The victim is the lowest way of the fill map whose bit is one; if there is none, all bits of the fill map become one and its lowest
 -- way is the victim." The word before the touch, and the victim by that word.
@@ -10,7 +11,7 @@ unfoldable pub before : ℕ → Bits → Bits → Bits
 before W m b w = cond (any W (λ v. m v && b v)) (b w) (m w || b w)
 
 unfoldable pub victim : ℕ → Bits → Bits → ℕ
-victim W m b = lowest W (λ w. m w && before W m b w)
+victim W m b = encode W (λ w. m w && before W m b w)
 
 -- "Touching w clears its bit if w is in the fill map."
 unfoldable pub touch : Bits → ℕ → Bits → Bits

@@ -16,12 +16,12 @@ pub fn victim(word: u64, map: u16) -> Choice
     if ones == 0 {
         let all = word | (map as u64);
         return Choice {
-            way: waymap::lowest_way(map),
+            way: waymap::encode(map),
             word: all,
         };
     }
     Choice {
-        way: waymap::lowest_way(ones),
+        way: waymap::encode(ones),
         word,
     }
 }

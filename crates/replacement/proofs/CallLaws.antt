@@ -2,7 +2,7 @@
 use mathlib.Core.Path.{_≡_, refl, sym, ap, _∙_}
 use mathlib.Core.Bool.{Bool, true, false, not, _&&_, _||_, cond}
 use mathlib.Core.List.{[], _∷_}
-use Prim.Native.Nat.{ℕ, zero, suc, _^_, _≤_, _<_}
+use Prim.Native.Nat.{ℕ, zero, suc, _^_, _<_}
 use native.Mathlib.Omega.{arith}
 use lib.Dec.{eqb, ltb}
 use lib.Bits.{bitOr}
@@ -10,8 +10,7 @@ use borrow.Author.Tests.{eqb-true, ne-eqb, ltb-true, lt-ltb}
 use Rattle.waymap.specs.Bits.{bit, word, any, reaches}
 use Rattle.waymap.specs.Ways.{isWays, Sized}
 use Rattle.waymap.proofs.Booleans.{cases, and-left, and-right, or-none}
-use Rattle.waymap.proofs.WayLaws.{any-bits, any-wider}
-use Rattle.waymap.proofs.WordLaws.{bit-high}
+use Rattle.waymap.proofs.WayLaws.{any-bits}
 use Rattle.waymap.proofs.MapLaws.{below-reach, reach-or}
 use Rattle.waymap.proofs.NumberLaws as NumberLaws
 use Rattle.tree.specs.Calls as Tree
@@ -117,12 +116,9 @@ module _ (W : ℕ) (w : isWays W ≡ true) where
 -- ---- NRU
 
 module _ (W : ℕ) (w : isWays W ≡ true) where
-  pub nru-victim : (x map : ℕ) → map < 2 ^ 16 → reaches W map ≡ false → any 16 (bit map) ≡ true
+  pub nru-victim : (x map : ℕ) → map < 2 ^ 16 → reaches W map ≡ false
       → Nru.victimOf x map ≡ record { way = nru W .victim map x; word = nru W .before map x }
-  nru-victim x map h r some =
-      let small : W ≤ 16 = NumberLaws.sized W w .most in
-      let within : map < 2 ^ W = below-reach W map h r in
-      NruLaws.choice-width W map x small within (sym (any-wider W 16 (bit map) small (λ i k. bit-high W map i within k)) ∙ some)
+  nru-victim x map h r = NruLaws.choice-width W map x (NumberLaws.sized W w .most) (below-reach W map h r)
 
   pub nru-fresh : Nru.freshOf W ≡ nru W .fresh
   nru-fresh = NruLaws.fresh-word W (NumberLaws.sized W w .most)
@@ -157,7 +153,7 @@ module _ (W rule x map : ℕ) (limits : inLimits W rule ≡ true) (reach : reach
   pub victim-by-nru : {r : Choice} → map < 2 ^ 16 → rule ≡ 1 → r ≡ Nru.victimOf x map
       → record { answer = 0 ∷ r .way ∷ []; word = r .word } ≡ victimOf W rule x map
   victim-by-nru h o e =
-      let choice = e ∙ nru-victim W (ways W rule limits) x map h reach some in
+      let choice = e ∙ nru-victim W (ways W rule limits) x map h reach in
       victim-given W rule limits (is-nru W rule o) x map reach some (ap (λ (r : Choice). r .way) choice) (ap (λ (r : Choice). r .word) choice)
 
   pub victim-by-lru : {way : ℕ} → (rule ≡ 0 → ⊥) → (rule ≡ 1 → ⊥) → way ≡ Lru.victimOf W x map

@@ -9,10 +9,12 @@ use lib.Dec.{eqb}
 use lib.ListN.{length, getD, set, length-set}
 use lib.Seq.{getD-set-other}
 use borrow.Author.Tests.{ne-eqb}
-use Rattle.waymap.specs.Bits.{bit, word, any, lowest, put}
+use Rattle.waymap.specs.Bits.{bit, word, any, put}
+use Rattle.waymap.specs.Encoder.{encode}
 use Rattle.waymap.proofs.Booleans.{cases, and-left}
 use Rattle.waymap.proofs.WordLaws.{bit-word-in}
-use Rattle.waymap.proofs.WayLaws.{any-ext, lowest-ext, lowest-found}
+use Rattle.waymap.proofs.WayLaws.{any-ext}
+use Rattle.waymap.proofs.EncoderLaws.{encode-ext, encode-found}
 use Rattle.replacement.specs.Rule.{Rule}
 use Rattle.replacement.specs.Isolates.{Isolates}
 use Rattle.row.specs.Row.{Row, Effect, ways, isHit, hitWay, hitAt, vacant, filled, fillAt, evictAt, accessBy, access, flushAt, flush}
@@ -130,11 +132,11 @@ module _ {W : ℕ} {R : Rule} (I : Isolates W R) (few : W ≤ 16) (p : Maps) (c 
     own-hit : isHit r (p .hit) tag ≡ true → bit (p .hit) (hitWay r (p .hit) tag) ≡ true
     own-hit = hit-own (r .tags) (r .valid) (p .hit) tag
 
-    vacant-fill : any (ways r) (vacant r (p .fill)) ≡ true → bit (p .fill) (lowest (ways r) (vacant r (p .fill))) ≡ true
+    vacant-fill : any (ways r) (vacant r (p .fill)) ≡ true → bit (p .fill) (encode (ways r) (vacant r (p .fill))) ≡ true
     unfolding vacant
     vacant-fill e =
-        let w = lowest (ways r) (vacant r (p .fill)) in
-        and-left (bit (p .fill) w) (not (bit (r .valid) w)) (lowest-found (ways r) (vacant r (p .fill)) e .1)
+        let w = encode (ways r) (vacant r (p .fill)) in
+        and-left (bit (p .fill) w) (not (bit (r .valid) w)) (encode-found (ways r) (vacant r (p .fill)) e .1)
 
     victim-fill : any (ways r) (bit (p .fill)) ≡ true → bit (p .fill) (R .victim (p .fill) (r .word)) ≡ true
     victim-fill e = I .victim-in (p .fill) (r .word) (rw long at e) .1
@@ -150,8 +152,8 @@ module _ {W : ℕ} {R : Rule} (I : Isolates W R) (few : W ≤ 16) (p : Maps) (c 
         access-cases R p tag store r r (λ e f. SameLine (e .row) r v) refl refl refl
         (λ t. hit-other R (p .fill) store (hitWay r (p .hit) tag) r v low (apart (p .hit) (hitWay r (p .hit) tag) v (own-hit t) b))
         (same-line r v)
-        (λ t. filled-other R (p .fill) tag store (lowest (ways r) (vacant r (p .fill))) (r .word) r v low
-        (apart (p .hit) (lowest (ways r) (vacant r (p .fill))) v (c .part _ (vacant-fill t)) b))
+        (λ t. filled-other R (p .fill) tag store (encode (ways r) (vacant r (p .fill))) (r .word) r v low
+        (apart (p .hit) (encode (ways r) (vacant r (p .fill))) v (c .part _ (vacant-fill t)) b))
         (λ t u. filled-other R (p .fill) tag store (R .victim (p .fill) (r .word)) (R .before (p .fill) (r .word)) r v low
         (apart (p .hit) (R .victim (p .fill) (r .word)) v (c .part _ (victim-fill t)) b))
       where
@@ -165,8 +167,8 @@ module _ {W : ℕ} {R : Rule} (I : Isolates W R) (few : W ≤ 16) (p : Maps) (c 
         access-cases R p tag store r r (λ e f. SameMatch (e .row) r v) refl refl refl
         (λ t. record { valid = refl; tag = refl })
         (line-match (same-line r v))
-        (λ t. line-match (filled-other R (p .fill) tag store (lowest (ways r) (vacant r (p .fill))) (r .word) r v low
-        (apart (p .fill) (lowest (ways r) (vacant r (p .fill))) v (vacant-fill t) b)))
+        (λ t. line-match (filled-other R (p .fill) tag store (encode (ways r) (vacant r (p .fill))) (r .word) r v low
+        (apart (p .fill) (encode (ways r) (vacant r (p .fill))) v (vacant-fill t) b)))
         (λ t u. line-match (filled-other R (p .fill) tag store (R .victim (p .fill) (r .word)) (R .before (p .fill) (r .word)) r v low
         (apart (p .fill) (R .victim (p .fill) (r .word)) v (victim-fill t) b)))
       where
@@ -180,7 +182,7 @@ module _ {W : ℕ} {R : Rule} (I : Isolates W R) (few : W ≤ 16) (p : Maps) (c 
         access-cases R p tag store r r (λ e f. R .view (e .row .word) x ≡ R .view (r .word) x) refl refl refl
         (λ t. I .touch-stays (p .fill) (hitWay r (p .hit) tag) (r .word) x b)
         refl
-        (λ t. I .touch-stays (p .fill) (lowest (ways r) (vacant r (p .fill))) (r .word) x b)
+        (λ t. I .touch-stays (p .fill) (encode (ways r) (vacant r (p .fill))) (r .word) x b)
         (λ t u. I .touch-stays (p .fill) (R .victim (p .fill) (r .word)) (R .before (p .fill) (r .word)) x b ∙ I .before-stays (p .fill) (r .word) x b)
 
     -- a flush leaves every line that it does not hit, and so those outside the hit map
@@ -224,8 +226,8 @@ module _ {W : ℕ} {R : Rule} (I : Isolates W R) (few : W ≤ 16) (p : Maps) (c 
     room-same : any (ways r) (vacant r (p .fill)) ≡ any (ways q) (vacant q (p .fill))
     room-same = ap (λ (n : ℕ). any n (vacant r (p .fill))) as-long ∙ any-ext (ways q) (λ w h. vacant-same w)
 
-    lowest-same : lowest (ways r) (vacant r (p .fill)) ≡ lowest (ways q) (vacant q (p .fill))
-    lowest-same = ap (λ (n : ℕ). lowest n (vacant r (p .fill))) as-long ∙ lowest-ext (ways q) (λ w h. vacant-same w)
+    room-way : encode (ways r) (vacant r (p .fill)) ≡ encode (ways q) (vacant q (p .fill))
+    room-way = ap (λ (n : ℕ). encode n (vacant r (p .fill))) as-long ∙ encode-ext (ways q) (λ w h. vacant-same w)
 
     victim-same : R .victim (p .fill) (r .word) ≡ R .victim (p .fill) (q .word)
     victim-same = I .victim-own (p .fill) (r .word) (q .word) (s .own)
@@ -245,7 +247,7 @@ module _ {W : ℕ} {R : Rule} (I : Isolates W R) (few : W ≤ 16) (p : Maps) (c 
         by-cases store (λ e f. e .answer ≡ f .answer)
         (λ t. ap Hit way-same)
         refl
-        (λ t. ap Fill lowest-same)
+        (λ t. ap Fill room-way)
         (λ t u. let w : ℕ = R .victim (p .fill) (r .word) in
         let mine = victim-fill r long-r t in
         rw (← victim-same) (ap₂ (λ (x : ℕ) (b : Bool). Evict w x b) (s .matches w (c .part w mine) .tag) (s .marks w mine)))
@@ -256,7 +258,7 @@ module _ {W : ℕ} {R : Rule} (I : Isolates W R) (few : W ≤ 16) (p : Maps) (c 
         by-cases store (λ a b. SameLine (a .row) (b .row) v)
         (λ t. rw (← way-same) (hit-agrees R (p .fill) store (hitWay r (p .hit) tag) r q v low e))
         e
-        (λ t. rw (← lowest-same) (filled-agrees R (p .fill) tag store (lowest (ways r) (vacant r (p .fill))) (r .word) r q (q .word) v low as-long e))
+        (λ t. rw (← room-way) (filled-agrees R (p .fill) tag store (encode (ways r) (vacant r (p .fill))) (r .word) r q (q .word) v low as-long e))
         (λ t u. rw (← victim-same)
         (filled-agrees R (p .fill) tag store (R .victim (p .fill) (r .word)) (R .before (p .fill) (r .word)) r q
         (R .before (p .fill) (q .word)) v low as-long e))
@@ -271,7 +273,7 @@ module _ {W : ℕ} {R : Rule} (I : Isolates W R) (few : W ≤ 16) (p : Maps) (c 
         by-cases store (λ a b. R .view (a .row .word) x ≡ R .view (b .row .word) x)
         (λ t. rw (← way-same) (I .touch-agrees (p .fill) (hitWay r (p .hit) tag) (r .word) (q .word) x (s .own) e))
         e
-        (λ t. rw (← lowest-same) (I .touch-agrees (p .fill) (lowest (ways r) (vacant r (p .fill))) (r .word) (q .word) x (s .own) e))
+        (λ t. rw (← room-way) (I .touch-agrees (p .fill) (encode (ways r) (vacant r (p .fill))) (r .word) (q .word) x (s .own) e))
         (λ t u. rw (← victim-same)
         (I .touch-agrees (p .fill) (R .victim (p .fill) (r .word)) (R .before (p .fill) (r .word)) (R .before (p .fill) (q .word)) x
         (λ y o. I .before-agrees (p .fill) (r .word) (q .word) y (s .own) (s .own y o))
@@ -304,7 +306,7 @@ unfolding hitAt fillAt evictAt filled
 access-long R p tag store r =
     access-cases R p tag store r r (λ e f. length (e .row .tags) ≡ length (r .tags)) refl refl refl
     (λ t. refl) refl
-    (λ t. length-set (r .tags) (lowest (ways r) (vacant r (p .fill))) tag)
+    (λ t. length-set (r .tags) (encode (ways r) (vacant r (p .fill))) tag)
     (λ t u. length-set (r .tags) (R .victim (p .fill) (r .word)) tag)
 
 pub flush-long : (p : Maps) (tag : ℕ) (r : Row) → length (flush p tag r .row .tags) ≡ length (r .tags)

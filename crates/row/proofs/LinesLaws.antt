@@ -2,14 +2,16 @@
 use mathlib.Core.Path.{_≡_, refl, sym, ap, _∙_}
 use mathlib.Core.Bool.{Bool, true, false, cond, not, _&&_}
 use Prim.Native.Nat.{ℕ, _+_, _≤_, _<_}
-use native.Mathlib.Nat.{lt-of-lt-of-le, le-trans}
+use native.Mathlib.Nat.{lt-of-lt-of-le}
 use native.Mathlib.Omega.{arith}
 use lib.Dec.{eqb}
 use lib.ListN.{length, length-set}
 use borrow.Author.Tests.{eq-eqb, ne-eqb}
-use Rattle.waymap.specs.Bits.{Bits, bit, digit, any, lowest, count, put}
+use Rattle.waymap.specs.Bits.{Bits, bit, digit, put}
+use Rattle.waymap.specs.Encoder.{encode}
 use Rattle.waymap.proofs.Booleans.{cases, and-left, and-right, not-both}
-use Rattle.waymap.proofs.WayLaws.{none-at, lowest-found, count-ext, count-none, count-le, count-one, count-mono}
+use Rattle.waymap.proofs.EncoderLaws.{encode-found}
+use Rattle.waymap.proofs.WayLaws.{none-at, count-ext, count-none, count-le, count-one, count-mono}
 use Rattle.replacement.specs.Rule.{Rule}
 use Rattle.replacement.specs.Isolates.{Isolates}
 use Rattle.policy.specs.declared.Maps.{Maps}
@@ -17,7 +19,7 @@ use Rattle.policy.proofs.ReadLaws.{Cut}
 use Rattle.lookup.proofs.LookupLaws.{hit-lt, hit-own, hit-valid}
 use Rattle.command.specs.declared.Answer.{Answer}
 use Rattle.command.specs.declared.Answer.the-variants.{Hit, Fill, Evict, Pass, Flush, Absent, Policy, Refused}
-use Rattle.row.specs.Row.{Row, Effect, ways, linesIn, isHit, hitWay, hitAt, vacant, filled, fillAt, evictAt, access, flushAt, flush}
+use Rattle.row.specs.Row.{Row, ways, linesIn, isHit, hitWay, hitAt, vacant, filled, fillAt, evictAt, access, flushAt, flush}
 use Rattle.row.proofs.LineLaws.{put-bit, access-cases}
 
 -- The lines that an answer of an access or a flush brings into its set, and those that it takes out.
@@ -114,8 +116,8 @@ module _ {W : ℕ} {R : Rule} (I : Isolates W R) (few : W ≤ 16) (p : Maps) (c 
       (λ e f. linesIn (bit (p .hit)) r + came (e .answer) ≡ linesIn (bit (p .hit)) (e .row) + went (e .answer)) refl refl refl
       (λ t. refl)
       refl
-      (λ t. let w : ℕ = lowest (ways r) (vacant r (p .fill)) in
-      let found = lowest-found (ways r) (vacant r (p .fill)) t in
+      (λ t. let w : ℕ = encode (ways r) (vacant r (p .fill)) in
+      let found = encode-found (ways r) (vacant r (p .fill)) t in
       omega (
         arith,
         filled-lines store w (r .word) false (found .0) (and-left (bit (p .fill) w) (not (bit (r .valid) w)) (found .1))

@@ -3,15 +3,17 @@ use mathlib.Core.Path.{_≡_, sym, ap, _∙_}
 use mathlib.Core.Bool.{Bool, true, false, not, _&&_}
 use mathlib.Core.List.{List}
 use Prim.Native.Nat.{ℕ, _-_, _^_, _≤_, _<_}
-use native.Mathlib.Nat.{lt-of-lt-of-le, lt-irrefl}
+use lib.Dec.{ltb}
 use lib.Bits.{bitAnd}
 use lib.ListN.{length, getD, set}
-use borrow.Author.Tests.{ne-eqb, lt-ltb}
-use Rattle.waymap.specs.Bits.{bit, word, any, lowest}
+use borrow.Author.Tests.{ne-eqb, lt-ltb, le-ltb}
+use Rattle.waymap.specs.Bits.{bit, word, any}
+use Rattle.waymap.specs.Encoder.{encode}
 use Rattle.waymap.proofs.Booleans.{cases}
 use Rattle.waymap.proofs.BitLaws.{bit-and, bit-not}
 use Rattle.waymap.proofs.WordLaws.{bit-high}
-use Rattle.waymap.proofs.WayLaws.{any-bits, any-lowest, any-wider, lowest-ext, lowest-wider, lowest-found}
+use Rattle.waymap.proofs.WayLaws.{any-bits}
+use Rattle.waymap.proofs.EncoderLaws.{encode-ext, any-encode, encode-wider}
 use Rattle.waymap.proofs.MapLaws.{below-reach, none-empty}
 use Rattle.replacement.specs.Rule.{Rule, ruleOf}
 use Rattle.row.specs.Row.{Row, Effect, isHit, hitWay, hitAt, vacant, filled, fillAt, evictAt, accessBy, access, flushAt, flush}
@@ -65,40 +67,25 @@ module _ (rule tag : ℕ) (store : Bool) (tags : List ℕ) (l : Lines) where
     unfolding vacant
     vacant-within i h = rw (bit-high (length tags) fill i (below-reach (length tags) fill (u .small) (u .within)) h)
 
-    lowest-vacant : lowest 16 (bit (bitAnd fill (2 ^ 16 - 1 - l .valid))) ≡ lowest 16 (vacant row fill)
-    lowest-vacant = lowest-ext 16 vacant-bit
+    few : length tags ≤ 16
+    few = most-ways (length tags) rule (u .limits)
 
-    room : any 16 (vacant row fill) ≡ any (length tags) (vacant row fill)
-    room = any-wider (length tags) 16 (vacant row fill) (most-ways (length tags) rule (u .limits)) vacant-within
+    -- what the encoder gives of that map
+    module _ {way : ℕ} (e : way ≡ encode 16 (bit (bitAnd fill (2 ^ 16 - 1 - l .valid)))) where
+      given : way ≡ encode (length tags) (vacant row fill)
+      given = e ∙ encode-ext 16 vacant-bit ∙ encode-wider (length tags) 16 (vacant row fill) few vacant-within
 
-    pub bring-fill : {way : ℕ} {k : Lines} → way ≡ lowest 16 (bit (bitAnd fill (2 ^ 16 - 1 - l .valid))) → way < length tags
-        → k ≡ linesOf (filled R fill 0 store way (l .word) (untagged l))
-        → record { answer = Fill way; row = rowOf (set tags way tag) k } ≡ missAt R fill tag store row
-    unfolding accessBy fillAt filled
-    bring-fill {way} {k} e h f = rw (free, f, same)
-      where
-        free : any (length tags) (vacant row fill) ≡ true
-        free =
-            sym room ∙ any-lowest 16 (vacant row fill)
-            ∙ lt-ltb (lowest 16 (vacant row fill)) 16 (rw (← lowest-vacant, ← e) (lt-of-lt-of-le h (most-ways (length tags) rule (u .limits))))
+      room : any (length tags) (vacant row fill) ≡ ltb way (length tags)
+      room = any-encode (length tags) (vacant row fill) few ∙ ap (λ (w : ℕ). ltb w (length tags)) (sym given)
 
-        same : way ≡ lowest (length tags) (vacant row fill)
-        same = e ∙ lowest-vacant ∙ lowest-wider (length tags) 16 (vacant row fill) (most-ways (length tags) rule (u .limits)) free
+      pub bring-fill : {k : Lines} → way < length tags → k ≡ linesOf (filled R fill 0 store way (l .word) (untagged l))
+          → record { answer = Fill way; row = rowOf (set tags way tag) k } ≡ missAt R fill tag store row
+      unfolding accessBy fillAt filled
+      bring-fill h f = rw (room ∙ lt-ltb way (length tags) h, f, given)
 
-    pub bring-evict : {way : ℕ} {q : Effect} → way ≡ lowest 16 (bit (bitAnd fill (2 ^ 16 - 1 - l .valid))) → length tags ≤ way
-        → q ≡ evictAt R fill tag store row → q ≡ missAt R fill tag store row
-    unfolding accessBy
-    bring-evict {way} e h f = f ∙ rw full
-      where
-        full : any (length tags) (vacant row fill) ≡ false
-        full =
-            cases (any (length tags) (vacant row fill))
-            (λ t. absurd (lt-irrefl way
-            (lt-of-lt-of-le
-            (rw (e ∙ lowest-vacant ∙ lowest-wider (length tags) 16 (vacant row fill) (most-ways (length tags) rule (u .limits)) t)
-            (lowest-found (length tags) (vacant row fill) t .0))
-            h)))
-            (λ t. t)
+      pub bring-evict : {q : Effect} → length tags ≤ way → q ≡ evictAt R fill tag store row → q ≡ missAt R fill tag store row
+      unfolding accessBy
+      bring-evict h f = f ∙ rw (room ∙ le-ltb way (length tags) h)
 
   pub evict-is : (fill : ℕ) (c : Choice) {dirty : Bool} {k : Lines} → ChoiceOf (length tags) rule fill (l .word) c → dirty ≡ bit (l .dirty) (c .way)
       → k ≡ linesOf (filled R fill 0 store (c .way) (c .word) (untagged l))

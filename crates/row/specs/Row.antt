@@ -3,7 +3,8 @@ use mathlib.Core.Bool.{Bool, true, false, cond, not, _&&_}
 use mathlib.Core.List.{List}
 use Prim.Native.Nat.{ℕ}
 use lib.ListN.{length, getD, set}
-use Rattle.waymap.specs.Bits.{Bits, bit, word, any, lowest, count, put}
+use Rattle.waymap.specs.Bits.{Bits, bit, word, any, count, put}
+use Rattle.waymap.specs.Encoder.{encode}
 use Rattle.replacement.specs.Rule.{Rule}
 use Rattle.policy.specs.declared.Maps.{Maps}
 use Rattle.lookup.specs.Lookup as Lookup
@@ -67,7 +68,7 @@ vacant r fill w = bit fill w && not (bit (r .valid) w)
 
 unfoldable pub fillAt : Rule → ℕ → ℕ → Bool → Row → Effect
 fillAt R fill tag store r =
-    let w = lowest (ways r) (vacant r fill) in
+    let w = encode (ways r) (vacant r fill) in
     record { answer = Fill w; row = filled R fill tag store w (r .word) r }
 
 -- "if none, the victim is evicted and its tag and dirtiness answered"

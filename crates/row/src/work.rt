@@ -42,7 +42,7 @@ pub fn bring(tags: &mut [u64], lines: Lines, rule: usize, fill: u16, tag: u64, s
     ensures { λ r. ⌜ result r (now (tags .exit)) ≡ missAt (ruleOf rule (length (now (tags .entry)))) fill tag store (rowOf (now (tags .entry)) lines) ⌝ }
 {
     let ways = tags.len();
-    let way = waymap::lowest_way(fill & !lines.valid);
+    let way = waymap::encode(fill & !lines.valid);
     if way < ways {
         tags[way] = tag;
         return Done {

@@ -2,6 +2,7 @@
 use mathlib.Core.Bool.{xor}
 use Prim.Native.Nat.{ℕ, _+_, _*_}
 use Rattle.waymap.specs.Bits.{bit, word, any, lowest, count, members, put, reaches}
+use Rattle.waymap.specs.Encoder.{encode}
 use Rattle.waymap.specs.Ways.{isWays}
 use Rattle.tree.specs.Tree as Tree
 use Rattle.nru.specs.Nru as Nru
@@ -31,8 +32,8 @@ unfolding answersOf finally step decided stepBy changePolicy droppedBy dropsOf u
     Row.access Row.flushAt Row.flush Clean.moved Clean.without Clean.wiped Clean.dropWays Clean.dropped Clean.droppedDirty Clean.cleaned Tree.passes
     Tree.under Tree.holds Tree.free Tree.forcedRight Tree.walk Tree.walked Tree.victim Tree.touch Tree.changes Tree.reset Tree.shares Nru.victim
     Nru.before Nru.touch Nru.changes Nru.reset Nru.fresh Lru.places Lru.wordOf Lru.times Lru.malformed Lru.fresh Lru.order Lru.written Lru.kept
-    Lru.joined Lru.touched Lru.touch Lru.last Lru.victim Lru.changes Lru.aged Lru.reset Lru.before Lru.own bit word any lowest count members put
-    reaches xor
+    Lru.joined Lru.touched Lru.touch Lru.last Lru.victim Lru.changes Lru.aged Lru.reset Lru.before Lru.own bit word any lowest encode count members
+    put reaches xor
 computing = tt
 
 -- A step, and the argument of a policy with both maps m.

@@ -4,6 +4,7 @@ pub mod BitLaws
 pub mod WordLaws
 pub mod WayLaws
 pub mod MapLaws
+pub mod EncoderLaws
 pub mod LowestLaws
 pub mod MemberLaws
 pub mod NumberLaws

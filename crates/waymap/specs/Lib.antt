@@ -1,3 +1,4 @@
--- What a way map is, and how many ways there are.
+-- What a way map is, which of its ways is taken, and how many ways there are.
 pub mod Bits
+pub mod Encoder
 pub mod Ways

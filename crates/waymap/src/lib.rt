@@ -5,6 +5,7 @@ ghost use mathlib.Core.Bool.{not};
 ghost use Prim.Native.Nat.{ℕ};
 ghost use lib.Dec.{ltb, eqb};
 ghost use Rattle.waymap.specs.Bits.{bit, word, lowest, count, put, reaches};
+ghost use Rattle.waymap.specs.Encoder.{encode as encodeMap};
 ghost use Rattle.waymap.specs.Ways.{isWays, takes as takesMap};
 
 // Whether the map holds the way. No map holds way 16 or more.
@@ -72,6 +73,13 @@ pub fn lowest_way(map: u16) -> usize
     ensures { λ r. ⌜ r ≡ lowest 16 (bit map) ⌝ }
 {
     u16::trailing_zeros(map) as usize
+}
+
+// The way that the priority encoder gives of the map, 16 where it is empty.
+pub fn encode(map: u16) -> usize
+    ensures { λ r. ⌜ r ≡ encodeMap 16 (bit map) ⌝ }
+{
+    lowest_way(map)
 }
 
 // The map with the way made a member of it or not. No map has way 16 or more.

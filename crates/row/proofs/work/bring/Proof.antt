@@ -4,8 +4,8 @@ use Rattle.row.proofs.WorkLaws.{bring-fill, bring-evict}
 use Rattle.row.proofs.work.bring.Statement.{statement}
 use Rattle.row.proofs.work.bring.Tie as tie
 
-lowest-way-requires : tie.Need-lowest-way-requires
-lowest-way-requires c κs = search needs
+encode-requires : tie.Need-encode-requires
+encode-requires c κs = search needs
 
 mul-tags : tie.Need-mul-tags
 mul-tags c = search needs
@@ -24,7 +24,7 @@ returns c =
     let a = c .before .before .before .before .before .args in
     bring-fill (a .rule) (a .tag) (a .store) (a .tags .now) (a .lines) (a .fill) (c .before .before .before .before .before .pre .0)
     (c .before .before .before .struct-known .given .0 .fits)
-    (c .before .before .lowest-way .ensures) (c .before .if1 .taken) (c .filled .ensures)
+    (c .before .before .encode .ensures) (c .before .if1 .taken) (c .filled .ensures)
 
 evict-requires : tie.Need-evict-requires
 evict-requires c κs = search needs
@@ -38,13 +38,13 @@ returns-2 c =
     bring-evict (a .rule) (a .tag) (a .store) (a .tags .now) (a .lines) (a .fill)
     (c .before .before .before .before .before .before .before .before .pre .0)
     (c .before .before .before .before .before .before .struct-known .given .0 .fits)
-    (c .before .before .before .before .before .lowest-way .ensures) (c .before .before .before .before .if1 .left) (c .before .before .evict .ensures)
+    (c .before .before .before .before .before .encode .ensures) (c .before .before .before .before .if1 .left) (c .before .before .evict .ensures)
 
 pub bring-spec : {M : Type 1} → statement M
 bring-spec =
     tie.close
     (tie.spec
-    lowest-way-requires
+    encode-requires
     mul-tags
     slice-write-tags
     filled-requires
