@@ -64,7 +64,7 @@
  *     does not have are zero.
  *
  *         DIPPERLOCK_HIT      0  way              the line was there
- *         DIPPERLOCK_FILL     1  way              a miss; an invalid way was filled
+ *         DIPPERLOCK_FILL     1  way              a miss; the highest invalid way of the fill map was filled
  *         DIPPERLOCK_EVICT    2  way, tag, dirty  a miss; this way was filled, and these were its line's tag and mark
  *         DIPPERLOCK_PASS     3                   a miss of a domain with an empty fill map: nothing was filled
  *         DIPPERLOCK_FLUSHED  4  way, dirty       the line was made invalid; whether it was dirty
@@ -111,7 +111,7 @@
  *     dipperlock_step(block, sizeof block, 0, DIPPERLOCK_STORE, 0x40, answer, sizeof answer);
  *     printf("%s %d\n", dipperlock_word_name(dipperlock_field(answer, 0)), (int)dipperlock_field(answer, 1));
  *
- *     prints "fill 0".
+ *     prints "fill 1".
  */
 
 #ifndef DIPPERLOCK_H

@@ -28,7 +28,7 @@ int main(void) {
     step(1, 1, DIPPERLOCK_POLICY, dipperlock_maps(0xc, 0xc));
     step(2, 0, DIPPERLOCK_STORE, 0x0);
     step(3, 0, DIPPERLOCK_LOAD, 0x40);
-    step(4, 1, DIPPERLOCK_LOAD, 0x0); /* domain 0 holds this line, in way 0: domain 1 does not hit there */
+    step(4, 1, DIPPERLOCK_LOAD, 0x0); /* domain 0 holds this line, in way 1: domain 1 does not hit there */
     step(5, 0, DIPPERLOCK_LOAD, 0x80);
     step(6, 0, DIPPERLOCK_FLUSH, 0x40);
     step(7, 2, DIPPERLOCK_LOAD, 0x0); /* domain 2 has no ways */

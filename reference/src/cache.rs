@@ -2,7 +2,7 @@
 
 use crate::domains::{Counts, Domains, Policy};
 use crate::geometry::Geometry;
-use crate::maps::{holds, lowest, only, Map};
+use crate::maps::{encoded, holds, only, Map};
 use crate::refusals::judge;
 use crate::replacement::{self, HandOver};
 use crate::steps::{Answer, Kind, Step};
@@ -127,12 +127,12 @@ impl Cache {
         (found, visited)
     }
 
-    /// "Else the lowest invalid way of the fill map is filled; if none, the victim is evicted and its tag and
-    /// dirtiness answered. The filled way is valid, dirty only for a store, and touched." Both are fills in the count
-    /// that document 02 adds: each brings a line in.
+    /// Else an invalid way of the fill map is filled, by document 02 the highest: "Among invalid ways [...] the highest
+    /// way now wins"; "if none, the victim is evicted and its tag and dirtiness answered. The filled way is valid,
+    /// dirty only for a store, and touched." Both are fills in the count that document 02 adds: each brings a line in.
     fn fill(&mut self, domain: usize, set: usize, tag: u64, store: bool) -> Answer {
         let fill_map = self.domains.policy(domain).fill_map;
-        let (way, answer) = match lowest(fill_map & !self.valid[set]) {
+        let (way, answer) = match encoded(fill_map & !self.valid[set]) {
             Some(way) => (way, Answer::Fill { way }),
             None => self.evict(domain, set, fill_map),
         };

@@ -1,4 +1,4 @@
-//! Cases A to L of document 01, and what document 02 adds to them.
+//! Cases A to L of document 01, with what document 02 adds to them and changes in them.
 
 use crate::geometry::Geometry;
 use crate::maps::Map;
@@ -41,17 +41,19 @@ fn call(sets: u16, ways: u8, rule: u8, steps: &[Code]) -> String {
     slices::of_file(&file(sets, ways, rule, steps))
 }
 
+/// By document 02, "lines 2 to 8 then read fill 1, fill 0, fill 3, evict 1 0 1, flush 0 0, refused 6, hit 1"; and the
+/// line of a domain ends in its fills and drops.
 const CASE_A: &str = "\
 1 4 0 9
 0 policy 0 0
 1 policy 0 0
-2 fill 0
-3 fill 1
-4 fill 2
-5 evict 0 0 1
-6 flush 1 0
+2 fill 1
+3 fill 0
+4 fill 3
+5 evict 1 0 1
+6 flush 0 0
 7 refused 6
-8 hit 0
+8 hit 1
 domain 0 1 3 1 1 1 3 0
 domain 1 0 1 0 0 0 1 0
 ";
@@ -77,7 +79,8 @@ fn case_a_the_listing() {
 }
 
 /// By document 02, fills and dropped: domain 0 gives up way 1, with the dirty line in it, and takes it back; then
-/// domain 1 is removed, and starts from zero when it is back.
+/// domain 1 is removed, and starts from zero when it is back. Both lines are gone: to load them again is to fill. The
+/// line that domain 0 loads is the one of address 0, which was its first and so in way 1.
 #[test]
 fn where_the_lines_went() {
     let steps = [
@@ -91,15 +94,15 @@ fn where_the_lines_went() {
         policy(1, 0),
         policy(1, 8),
         (1, LOAD, 0),
-        (0, LOAD, 64),
+        (0, LOAD, 0),
     ];
     let due = "\
 1 4 0 11
 0 policy 0 0
 1 policy 0 0
-2 fill 0
-3 fill 1
-4 fill 2
+2 fill 1
+3 fill 0
+4 fill 3
 5 policy 1 1
 6 policy 0 0
 7 policy 1 1
@@ -112,13 +115,13 @@ domain 1 0 1 0 0 0 1 0
     assert_eq!(list(1, 4, 0, &steps), due);
 }
 
-/// Four misses in maps of two ways; then a flush of the map's second way, a refused step and a hit in its first way.
+/// Four misses in maps of two ways; then a flush of the map's first way, a refused step and a hit in its second way.
 /// Beside the ways visited is the domain. Of domain 0's three lines one was evicted and one flushed.
 #[test]
 fn case_a_the_ways_visited() {
     let text = visits::of_file(&file(1, 4, 0, &steps_of_case_a()));
     let numbers: Vec<&str> = text.lines().collect();
-    assert_eq!(numbers[..9], ["0 0", "0 1", "2 0", "2 0", "2 1", "2 0", "2 0", "0 2", "1 0"]);
+    assert_eq!(numbers[..9], ["0 0", "0 1", "2 0", "2 0", "2 1", "2 0", "1 0", "0 2", "2 0"]);
     assert_eq!(numbers[9..], ["held 1 1 0 0 0 0 0 0 0 0 0 0 0 0 0 0"]);
 }
 
@@ -168,11 +171,33 @@ fn case_h_map_1_has_no_free_node() {
     assert_eq!(tree::free_nodes(8, 1), 0);
 }
 
+/// By document 02, "Case I gives way 2, bits 1 and 0": those of ways 1 and 2 after its touch.
 #[test]
 fn case_i_nru_map_6_word_0() {
     let (way, word) = nru::victim(0, 6).expect("a victim");
-    assert_eq!(way, 1);
-    assert_eq!(nru::touch(word, 6, way), 0b100);
+    assert_eq!(way, 2);
+    assert_eq!(nru::touch(word, 6, way), 0b010);
+}
+
+/// Case I by steps: of eight ways domain 0 fills 1 and 2, and has 3 and 4 locked, with nothing in them. When both bits
+/// are zero the default is way 2, the highest of the fill map, just hit as it is: not way 0, nor way 4, the highest of
+/// the hit map, nor way 7. Its touch leaves way 1 as the only way with its bit.
+#[test]
+fn the_nru_default_is_the_highest_way_of_the_fill_map() {
+    let mut steps = vec![(0, POLICY, 0b1_1110 | 0b0_0110 << 16)];
+    steps.extend([0, 64, 0, 128, 0, 64].map(|address| (0, LOAD, address)));
+    let due = "\
+1 8 1 7
+0 policy 0 0
+1 fill 2
+2 fill 1
+3 hit 2
+4 evict 2 0 0
+5 evict 1 1 0
+6 evict 2 2 0
+domain 0 1 5 3 0 0 5 0
+";
+    assert_eq!(list(1, 8, 1, &steps), due);
 }
 
 /// By document 02: "4,096 stands, 257 and 8,192 are refused 1 by a call, and a file naming 257 is refused 10."
@@ -252,12 +277,12 @@ fn sets_above_255_are_told_apart() {
     for sets in [512, 1024, 2048, 4096] {
         let load = |line: u16| (0, LOAD, 64 * u64::from(line));
         let steps = [policy(0, 15), load(0), load(256), load(sets), load(256), load(0), load(sets - 1)];
-        let fills = "1 fill 0\n2 fill 0\n3 fill 1\n4 hit 0\n5 hit 0\n6 fill 0";
+        let fills = "1 fill 3\n2 fill 3\n3 fill 2\n4 hit 3\n5 hit 3\n6 fill 3";
         let due = format!("{sets} 4 2 7\n0 policy 0 0\n{fills}\ndomain 0 2 4 0 0 0 4 0\n");
         assert_eq!(call(sets, 4, 2, &steps), due);
     }
     let of_one_set = list(256, 4, 2, &[policy(0, 15), (0, LOAD, 0), (0, LOAD, 64 * 256)]);
-    assert!(of_one_set.contains("\n1 fill 0\n2 fill 1\n"));
+    assert!(of_one_set.contains("\n1 fill 3\n2 fill 2\n"));
 }
 
 /// The last line of all addresses is in the last set, and its tag has 58 bits less those of the set.
@@ -280,16 +305,16 @@ fn calls_outside_the_limits() {
     }
 }
 
-/// Four ways under LRU, of which domain 0 has the upper three. Way 1 is filled first and hit again; then way 2 is the
-/// victim, and then way 3.
+/// Four ways under LRU, of which domain 0 has the upper three. Way 3 is filled first and hit again; then way 2 is the
+/// victim, and then way 1. Way 0, which is older than all of them, is not in the map.
 #[test]
 fn under_lru_the_victim_is_the_way_used_longest_ago() {
     let mut steps = vec![policy(0, 14)];
     steps.extend([0, 64, 128, 0, 192, 64].map(|address| (0, LOAD, address)));
     let listing = list(1, 4, 2, &steps);
     let lines: Vec<&str> = listing.lines().collect();
-    let due = ["2 fill 2", "3 fill 3", "4 hit 1", "5 evict 2 1 0", "6 evict 3 2 0", "domain 0 1 5 2 0 0 5 0"];
-    assert_eq!(lines[..3], ["1 4 2 7", "0 policy 0 0", "1 fill 1"]);
+    let due = ["2 fill 2", "3 fill 1", "4 hit 3", "5 evict 2 1 0", "6 evict 1 2 0", "domain 0 1 5 2 0 0 5 0"];
+    assert_eq!(lines[..3], ["1 4 2 7", "0 policy 0 0", "1 fill 3"]);
     assert_eq!(lines[3..], due);
 }
 
@@ -325,7 +350,8 @@ fn the_rules_called_alone() {
     assert_eq!(rules::of_file(&[]), "refused 10\n");
 }
 
-/// Maps 5 and 10 as in case F, 6 and word 0 as in case I, and no victim of an empty map.
+/// Maps 5 and 10 as in case F, 6 and word 0 as in case I, and no victim of an empty map. Of a zero word the NRU default
+/// is the map's highest way; under LRU zero is read as fresh, in which the lowest way is the oldest.
 #[test]
 fn conflicts_and_victims_of_the_rules_called_alone() {
     let entries = [(5, 0, 0), (10, 0, 0), (6, 0, 0), (0, 0, 0)];
@@ -336,7 +362,7 @@ fn conflicts_and_victims_of_the_rules_called_alone() {
     assert_eq!(of_rule(0, "conflict"), ["conflict 0", "conflict 9", "conflict 9", "conflict 0"]);
     assert_eq!(of_rule(1, "conflict"), ["conflict 0"; 4]);
     assert_eq!(of_rule(2, "conflict"), ["conflict 0"; 4]);
-    assert_eq!(of_rule(1, "victim"), ["victim 0 5", "victim 1 10", "victim 1 6", "victim refused 5"]);
+    assert_eq!(of_rule(1, "victim"), ["victim 2 5", "victim 3 10", "victim 2 6", "victim refused 5"]);
     assert_eq!(of_rule(2, "victim"), ["victim 0 0", "victim 1 0", "victim 1 0", "victim refused 5"]);
 }
 
@@ -356,15 +382,16 @@ fn touches_outside_the_map_of_the_rules_called_alone() {
     }
 }
 
-/// Domain 15 has ways 9 to 11 and 13 of sixteen: four without a hit, the first two up to way 10. A file without a step
-/// has no such number, and a refused one has none either. Of two lines one is flushed.
+/// Domain 15 has ways 9 to 11 and 13 of sixteen: four without a hit, the first two up to way 10. The fourth line that
+/// it loads is in way 9, and the third in way 10. A file without a step has no such number, and a refused one has none
+/// either. Of four lines one is flushed.
 #[test]
 fn the_ways_visited_by_a_file() {
-    let load = |address| (15, LOAD, address);
-    let steps =
-        [policy(15, 0x2e00), load(0), load(4096), load(0), load(4096), (15, FLUSH, 4096), (15, 4, 0), (0, LOAD, 0)];
+    let mut steps = vec![policy(15, 0x2e00)];
+    steps.extend([0, 4096, 8192, 12_288, 12_288, 8192].map(|address| (15, LOAD, address)));
+    steps.extend([(15, FLUSH, 8192), (15, 4, 0), (0, LOAD, 0)]);
     let held = |lines: u32| format!("held{} {lines}\n", " 0".repeat(15));
-    let due = format!("0 15\n4 15\n4 15\n1 15\n2 15\n2 15\n0 15\n0 0\n{}", held(1));
+    let due = format!("0 15\n4 15\n4 15\n4 15\n4 15\n1 15\n2 15\n2 15\n0 15\n0 0\n{}", held(3));
     assert_eq!(visits::of_file(&file(64, 16, 2, &steps)), due);
     assert_eq!(visits::of_file(&file(64, 16, 2, &[])), held(0));
     assert_eq!(visits::of_file(&file(64, 16, 3, &steps)), "refused\n");
@@ -409,20 +436,20 @@ const CORES: &str = "\
 1 4 0 26
 0 policy 0 0
 1 policy 0 0
-2 fill 0
+2 fill 1
 3 select 1 1 0
-4 fill 2
-5 fill 1
-6 hit 2
+4 fill 3
+5 fill 0
+6 hit 3
 7 absent
 8 select 0 0 1
-9 flush 1 1
-10 hit 2
-11 hit 0
-12 fill 1
-13 hit 1
-14 evict 0 0 0
-15 evict 1 2 0
+9 flush 0 1
+10 hit 3
+11 hit 1
+12 fill 0
+13 hit 0
+14 evict 1 0 0
+15 evict 0 2 0
 16 refused 11
 17 refused 11
 18 select 15 15 15
@@ -447,7 +474,7 @@ fn cores_that_are_switched() {
 fn without_a_list_of_cores() {
     let due = |&(domain, kind, _): &Code| match (kind, domain) {
         (POLICY, _) => "policy 0 0",
-        (LOAD, _) => "fill 0",
+        (LOAD, _) => "fill 1",
         (_, 16..) => "refused 3",
         _ => "refused 4",
     };
@@ -463,8 +490,8 @@ fn without_a_list_of_cores() {
 fn the_ways_visited_through_cores() {
     let text = visits::of_file(&file(1, 4, 0, &steps_of_cores()));
     let lines: Vec<&str> = text.lines().collect();
-    assert_eq!(lines[..9], ["0 0", "0 1", "2 0", "0 65535", "2 1", "2 0", "1 1", "2 1", "0 65535"]);
-    assert_eq!(lines[9..16], ["2 0", "1 1", "1 0", "2 0", "2 0", "2 0", "2 0"]);
+    assert_eq!(lines[..9], ["0 0", "0 1", "2 0", "0 65535", "2 1", "2 0", "2 1", "2 1", "0 65535"]);
+    assert_eq!(lines[9..16], ["1 0", "2 1", "2 0", "2 0", "1 0", "2 0", "2 0"]);
     assert_eq!(lines[16..20], ["0 65535", "0 65535", "0 65535", "0 15"]);
     assert_eq!(lines[20..26], ["0 65535", "0 65535", "0 65535", "0 15", "0 20", "0 5"]);
     assert_eq!(lines[26..], ["held 2 1 0 0 0 0 0 0 0 0 0 0 0 0 0 0"]);
@@ -509,11 +536,11 @@ fn case_a_the_struck_out_run() {
 1 4 0 7
 0 policy 0 0
 1 policy 0 0
-2 fill 0
-3 fill 1
-4 evict 0 0 1
-5 flush 1 0
-6 hit 0
+2 fill 1
+3 fill 0
+4 evict 1 0 1
+5 flush 0 0
+6 hit 1
 domain 0 1 3 1 1 1 3 0
 domain 1 0 0 0 0 0 0 0
 ";
@@ -529,11 +556,11 @@ fn the_struck_out_run_of_cores() {
 0 policy 0 0
 1 policy 0 0
 2 select 1 1 0
-3 fill 2
-4 hit 2
+3 fill 3
+4 hit 3
 5 absent
 6 select 0 0 1
-7 hit 2
+7 hit 3
 8 refused 11
 9 refused 11
 10 select 15 15 15

@@ -6,8 +6,9 @@
 //! the end, with `slices` the listing of its steps as calls, which may have more sets than a trace file, or records and
 //! tables that are lent, and with `purge` and a domain the domain's struck-out list. The block, in [`block`], is what C
 //! lends. All this was written from document 01 and, for true LRU, the order of work in the lookup, larger slices,
-//! touches outside the fill map, core selectors, fills and drops, and the block, document 02, without packages, so that
-//! `tools/compare` can set the lister beside the proved programs, and `tests/block` the block beside the proved library.
+//! touches outside the fill map, core selectors, fills and drops, the block, and the priority encoder, document 02,
+//! without packages, so that `tools/compare` can set the lister beside the proved programs, and `tests/block` the block
+//! beside the proved library.
 //! The rules, [`tree`], [`nru`] and [`lru`], the lookup that counts its visits, `find` in [`cache`], the limits of sets,
 //! in [`geometry`] and [`trace`], the core selectors, [`cores`], what is struck out, in [`purge`], the counts of fills
 //! and drops, in [`cache`], their number 7, in [`refusals`], [`lent`] and [`block`] were written without a look at their

@@ -22,7 +22,23 @@ pub fn holds(map: Map, way: usize) -> bool {
     map & only(way) != 0
 }
 
-/// The lowest way of a map, if it holds one.
-pub fn lowest(map: Map) -> Option<usize> {
-    (0..Map::BITS as usize).find(|&way| holds(map, way))
+/// The way that the block's priority encoder gives of a map, if the map holds one. By document 02 "the highest way now
+/// wins".
+pub fn encoded(map: Map) -> Option<usize> {
+    (0..Map::BITS as usize).rev().find(|&way| holds(map, way))
+}
+
+#[cfg(test)]
+mod tests {
+    use super::*;
+
+    /// Every map but the empty one: the way is in it, and no higher way is.
+    #[test]
+    fn the_encoder_gives_the_highest_way() {
+        assert_eq!(encoded(0), None);
+        for map in 1..=Map::MAX {
+            let way = encoded(map).expect("a way");
+            assert!(holds(map, way) && u32::from(map) < 2 << way, "map {map}");
+        }
+    }
 }

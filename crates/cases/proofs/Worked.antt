@@ -7,8 +7,9 @@ use Rattle.cases.specs.Case.{Case}
 use Rattle.cases.specs.Orders.{orders}
 use Rattle.cases.specs.Visits.{lookups}
 use Rattle.cases.specs.Lent.{lent}
+use Rattle.cases.specs.Choices.{choices}
 use Rattle.cases.specs.Cases.{cases}
 
 pub worked : (u : ℕ) → map (λ (c : Case). c .given) (cases u) ≡ map (λ (c : Case). c .printed) (cases u)
-unfolding computing orders lookups lent cases
+unfolding computing orders lookups choices lent cases
 worked u = refl

@@ -1,5 +1,6 @@
--- The worked cases in one list. First cases B to I of document 01 and step 5 of its case A: what the rules give, and what document 01
--- prints. Then those of document 02's jobs 4, 1 and 2, and our own cases on lent states: what the rules give, and what was worked out by hand.
+-- The worked cases in one list. First cases B to I of document 01 and step 5 of its case A: what the rules give, and what document 01 prints, or for A and
+-- I document 02's job 8. Then those of document 02's jobs 4, 1, 2 and 8, and our own cases on lent states: what the rules give, and what was worked out by
+-- hand.
 use mathlib.Core.Bool.{Bool, cond}
 use mathlib.Core.List.{List, [], _∷_, _++_, map}
 use Prim.Native.Nat.{ℕ, _+_, _*_}
@@ -15,6 +16,7 @@ use Rattle.cases.specs.Case.{Case}
 use Rattle.cases.specs.Orders.{orders}
 use Rattle.cases.specs.Visits.{lookups}
 use Rattle.cases.specs.Lent.{lent}
+use Rattle.cases.specs.Choices.{choices}
 
 -- A bit as a number.
 abbrev flag : Bool → ℕ
@@ -45,8 +47,8 @@ stepsA = takes 0 3 ∷ takes 1 12 ∷ does 0 2 0 ∷ does 0 1 64 ∷ does 1 1 0 
 -- The cases, of every replacement word u where document 01 names none. An answer is its word's number and its fields.
 unfoldable pub cases : ℕ → List Case
 cases u =
-    -- A, step 5: `evict` 0 0 1
-    record { given = answered 4 stepsA 5; printed = 2 ∷ 0 ∷ 0 ∷ 1 ∷ [] }
+    -- A, step 5, by job 8 of document 02: `evict` 1 0 1
+    record { given = answered 4 stepsA 5; printed = 2 ∷ 1 ∷ 0 ∷ 1 ∷ [] }
     -- B: "touching way 5 under map 255 sets node 0 to 0, node 2 to 1, node 5 to 0"
     ∷ record { given = map (λ (i : ℕ). flag (Tree.touch 8 (bit 255) 5 (bit u) i)) (0 ∷ 2 ∷ 5 ∷ []); printed = 0 ∷ 1 ∷ 0 ∷ [] }
     -- C: "map 12 has one free node, 4"
@@ -61,9 +63,9 @@ cases u =
     ∷ record { given = answered 8 (takes 0 3 ∷ takes 1 12 ∷ []) 1; printed = 6 ∷ 0 ∷ 0 ∷ [] }
     -- H: "map 1 has no free node"
     ∷ record { given = freeNodes 1 ∷ []; printed = 0 ∷ [] }
-    -- I: "NRU, map 6, word 0: victim way 1; after its touch bits 1 and 2 are 0 and 1"
-    ∷ record { given = nru 8 .victim 6 0 ∷ nru 8 .touch 6 1 (nru 8 .before 6 0) ∷ []; printed = 1 ∷ 4 ∷ [] }
+    -- I: "NRU, map 6, word 0"; by job 8 "way 2, bits 1 and 0", those of ways 1 and 2 after its touch
+    ∷ record { given = nru 8 .victim 6 0 ∷ nru 8 .touch 6 2 (nru 8 .before 6 0) ∷ []; printed = 2 ∷ 2 ∷ [] }
     -- job 4: map 6 has free node 1, and of a word with node 1 set a touch of way 3, outside the map, leaves it; one of way 2 turns it
     ∷ record { given = tree 8 .touch 6 3 2 ∷ tree 8 .touch 6 2 2 ∷ []; printed = 2 ∷ 0 ∷ [] }
-    -- job 1's, job 2's, and our own
-    ∷ (orders ++ (lookups ++ lent))
+    -- job 1's, job 2's, job 8's, and our own
+    ∷ (orders ++ (lookups ++ (choices ++ lent)))

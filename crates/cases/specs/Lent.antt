@@ -1,102 +1,10 @@
--- Cases on lent states. They are ours and not document 01's: a step on tables, policies and counts as they are written here, with the
--- answer and the state after it, both worked out by hand from document 01, and from document 02's jobs 1 and 6. Where a sentence of
--- them says what a case shows, the comment quotes it. The whole state is compared, so that a case also says what does not move.
+-- Cases on lent states. They are ours and not document 01's: each is worked out by hand from document 01, and from document 02's jobs 1, 6 and 8. Where
+-- a sentence of them says what a case shows, the comment quotes it.
 use mathlib.Core.List.{List, [], _∷_, _++_}
-use Prim.Native.Nat.{ℕ, _+_, _-_, _*_}
-use lib.ListN.{length, replicate}
-use Rattle.command.specs.Command.{Command}
-use Rattle.geometry.specs.declared.Geometry.{Geometry}
-use Rattle.domains.specs.Domains.{noDomain}
-use Rattle.domains.specs.declared.Domain.{Domain}
-use Rattle.steps.specs.Step.{State, Outcome, tablesOf}
-use Rattle.steps.specs.Run.{stepOn}
-use Rattle.steps.specs.Fresh.{fresh}
+use Prim.Native.Nat.{ℕ}
+use lib.ListN.{replicate}
 use Rattle.cases.specs.Case.{Case, hit, fill, evict, pass, flush, absent, policy, refused}
-
--- ---- Caches and steps
-
--- S sets of W ways, under Tree-PLRU, under NRU and under true LRU.
-abbrev plru : ℕ → ℕ → Geometry
-plru S W = record { sets = S; ways = W; rule = 0 }
-
-abbrev nru : ℕ → ℕ → Geometry
-nru S W = record { sets = S; ways = W; rule = 1 }
-
-abbrev lru : ℕ → ℕ → Geometry
-lru S W = record { sets = S; ways = W; rule = 2 }
-
--- A domain fetches, loads, stores or flushes at an address, or takes a hit map and a fill map.
-abbrev fetches : ℕ → ℕ → Command
-fetches d address = record { domain = d; kind = 0; argument = address }
-
-abbrev loads : ℕ → ℕ → Command
-loads d address = record { domain = d; kind = 1; argument = address }
-
-abbrev stores : ℕ → ℕ → Command
-stores d address = record { domain = d; kind = 2; argument = address }
-
-abbrev flushes : ℕ → ℕ → Command
-flushes d address = record { domain = d; kind = 3; argument = address }
-
-abbrev takes : ℕ → ℕ → ℕ → Command
-takes d hitMap fillMap = record { domain = d; kind = 16; argument = hitMap + 65536 * fillMap }
-
--- The address of a line. In a cache of one set a line's number is its tag.
-abbrev line : ℕ → ℕ
-line n = 64 * n
-
--- ---- States
-
--- A domain: hit map, fill map, and the counts of hits, misses, evicted, written back, flushed, fills and dropped.
-abbrev domain : ℕ → ℕ → ℕ → ℕ → ℕ → ℕ → ℕ → ℕ → ℕ → Domain
-domain hitMap fillMap hits misses evicted written flushed fills dropped = record {
-  hit = hitMap;
-  fill = fillMap;
-  counts = record { hits = hits; misses = misses; evicted = evicted; written = written; flushed = flushed; fills = fills; dropped = dropped };
-}
-
--- Tags, valid maps, dirty maps, replacement words, and the domains from 0 on; the domains that are not named have nothing.
-abbrev state : List ℕ → List ℕ → List ℕ → List ℕ → List Domain → State
-state tags valid dirty words domains = record {
-  tables = tablesOf tags valid dirty words;
-  domains = record { records = domains ++ replicate (16 - length domains) noDomain };
-}
-
--- The same of a cache of one set: tags, valid map, dirty map, replacement word, domains.
-abbrev row : List ℕ → ℕ → ℕ → ℕ → List Domain → State
-row tags valid dirty word = state tags (valid ∷ []) (dirty ∷ []) (word ∷ [])
-
--- All numbers of domains, of a state, and of an answer with a state.
-abbrev domainNumbers : List Domain → List ℕ
-domainNumbers [] = []
-domainNumbers (x ∷ xs) =
-    let c = x .counts in
-    x .hit ∷ x .fill ∷ c .hits ∷ c .misses ∷ c .evicted ∷ c .written ∷ c .flushed ∷ c .fills ∷ c .dropped ∷ domainNumbers xs
-
-abbrev stateNumbers : State → List ℕ
-stateNumbers s =
-    let t = s .tables in
-    t .tags ++ (t .valid ++ (t .dirty ++ (t .words ++ domainNumbers (s .domains .records))))
-
-abbrev numbers : Outcome → List ℕ
-numbers o = o .answer ++ stateNumbers (o .state)
-
--- ---- Cases
-
--- A cache, a step, the state before it, its answer, and the state after it.
-abbrev after : Geometry → Command → State → List ℕ → State → Case
-after g c before answer next = record {
-  given = numbers (stepOn g c before);
-  printed = numbers (record { answer = answer; state = next });
-}
-
--- A cache, a step that moves nothing, the state before and after it, and its answer.
-abbrev still : Geometry → Command → State → List ℕ → Case
-still g c before answer = after g c before answer before
-
--- A cache that is fresh, and its state.
-abbrev begins : Geometry → State → Case
-begins g s = record { given = stateNumbers (fresh g); printed = stateNumbers s }
+use Rattle.cases.specs.States.{plru, nru, lru, fetches, loads, stores, flushes, takes, line, domain, state, row, after, still, begins}
 
 -- "Line = address / 64; set = line mod S; tag = line / S (whole division)"; "the W tags of a set side by side": those of set s are at
 -- s × W and on.
@@ -104,9 +12,9 @@ abbrev places : List Case
 places =
     -- two sets of two ways: address 192 is in line 3, so set 1 and tag 1
     after (plru 2 2) (stores 0 192)
-    (state (8 ∷ 9 ∷ 10 ∷ 11 ∷ []) (0 ∷ 0 ∷ []) (0 ∷ 0 ∷ []) (0 ∷ 0 ∷ []) (domain 3 3 1 2 3 4 5 6 7 ∷ []))
-    (fill 0)
-    (state (8 ∷ 9 ∷ 1 ∷ 11 ∷ []) (0 ∷ 1 ∷ []) (0 ∷ 1 ∷ []) (0 ∷ 1 ∷ []) (domain 3 3 1 3 3 4 5 7 7 ∷ []))
+    (state (8 ∷ 9 ∷ 10 ∷ 11 ∷ []) (0 ∷ 0 ∷ []) (0 ∷ 0 ∷ []) (1 ∷ 1 ∷ []) (domain 3 3 1 2 3 4 5 6 7 ∷ []))
+    (fill 1)
+    (state (8 ∷ 9 ∷ 10 ∷ 1 ∷ []) (0 ∷ 2 ∷ []) (0 ∷ 2 ∷ []) (1 ∷ 0 ∷ []) (domain 3 3 1 3 3 4 5 7 7 ∷ []))
     -- where both sets have the tag, it is hit in the address's own
     ∷ after (plru 2 2) (loads 0 192)
     (state (8 ∷ 1 ∷ 1 ∷ 11 ∷ []) (3 ∷ 1 ∷ []) (0 ∷ 0 ∷ []) (1 ∷ 0 ∷ []) (domain 3 3 1 2 3 4 5 6 7 ∷ []))
@@ -114,14 +22,14 @@ places =
     (state (8 ∷ 1 ∷ 1 ∷ 11 ∷ []) (3 ∷ 1 ∷ []) (0 ∷ 0 ∷ []) (1 ∷ 1 ∷ []) (domain 3 3 2 2 3 4 5 6 7 ∷ []))
     -- two sets of four ways: address 447 is in line 6, so set 0 and tag 3
     ∷ after (plru 2 4) (loads 0 447)
-    (state (8 ∷ 9 ∷ 10 ∷ 11 ∷ 12 ∷ 13 ∷ 14 ∷ 15 ∷ []) (1 ∷ 15 ∷ []) (0 ∷ 8 ∷ []) (2 ∷ 5 ∷ []) (domain 15 15 1 2 3 4 5 6 7 ∷ []))
-    (fill 1)
-    (state (8 ∷ 3 ∷ 10 ∷ 11 ∷ 12 ∷ 13 ∷ 14 ∷ 15 ∷ []) (3 ∷ 15 ∷ []) (0 ∷ 8 ∷ []) (1 ∷ 5 ∷ []) (domain 15 15 1 3 3 4 5 7 7 ∷ []))
+    (state (8 ∷ 9 ∷ 10 ∷ 11 ∷ 12 ∷ 13 ∷ 14 ∷ 15 ∷ []) (1 ∷ 15 ∷ []) (0 ∷ 8 ∷ []) (7 ∷ 5 ∷ []) (domain 15 15 1 2 3 4 5 6 7 ∷ []))
+    (fill 3)
+    (state (8 ∷ 9 ∷ 10 ∷ 3 ∷ 12 ∷ 13 ∷ 14 ∷ 15 ∷ []) (9 ∷ 15 ∷ []) (0 ∷ 8 ∷ []) (2 ∷ 5 ∷ []) (domain 15 15 1 3 3 4 5 7 7 ∷ []))
     -- the next line, 7, is in set 1 and has tag 3 as well
     ∷ after (plru 2 4) (loads 0 448)
-    (state (8 ∷ 9 ∷ 10 ∷ 11 ∷ 12 ∷ 13 ∷ 14 ∷ 15 ∷ []) (1 ∷ 15 ∷ []) (0 ∷ 8 ∷ []) (2 ∷ 5 ∷ []) (domain 15 15 1 2 3 4 5 6 7 ∷ []))
+    (state (8 ∷ 9 ∷ 10 ∷ 11 ∷ 12 ∷ 13 ∷ 14 ∷ 15 ∷ []) (1 ∷ 15 ∷ []) (0 ∷ 8 ∷ []) (7 ∷ 5 ∷ []) (domain 15 15 1 2 3 4 5 6 7 ∷ []))
     (evict 3 15 1)
-    (state (8 ∷ 9 ∷ 10 ∷ 11 ∷ 12 ∷ 13 ∷ 14 ∷ 3 ∷ []) (1 ∷ 15 ∷ []) (0 ∷ 0 ∷ []) (2 ∷ 0 ∷ []) (domain 15 15 1 3 4 5 5 7 7 ∷ []))
+    (state (8 ∷ 9 ∷ 10 ∷ 11 ∷ 12 ∷ 13 ∷ 14 ∷ 3 ∷ []) (1 ∷ 15 ∷ []) (0 ∷ 0 ∷ []) (7 ∷ 0 ∷ []) (domain 15 15 1 3 4 5 5 7 7 ∷ []))
     -- "Addresses have 64 bits": the largest is in line 2 ^ 58 - 1, so set 1 and tag 2 ^ 57 - 1
     ∷ after (plru 2 2) (fetches 0 18446744073709551615)
     (state (8 ∷ 9 ∷ 10 ∷ 11 ∷ []) (3 ∷ 1 ∷ []) (0 ∷ 0 ∷ []) (0 ∷ 1 ∷ []) (domain 3 3 1 2 3 4 5 6 7 ∷ []))
@@ -292,11 +200,11 @@ accesses =
     (row (5 ∷ 6 ∷ []) 3 1 1 (domain 3 3 1 2 3 4 5 6 7 ∷ []))
     (evict 1 6 0)
     (row (5 ∷ 7 ∷ []) 3 3 0 (domain 3 3 1 3 4 4 5 7 7 ∷ []))
-    -- "if there is none, all bits of the fill map become one and its lowest way is the victim": ways 0 and 1 are others'
+    -- "if there is none, all bits of the fill map become one", and by job 8 its highest way is the victim: ways 0 and 3 are others'
     ∷ after (nru 1 4) (loads 0 (line 9))
-    (row (5 ∷ 6 ∷ 7 ∷ 8 ∷ []) 15 8 3 (domain 12 12 1 2 3 4 5 6 7 ∷ []))
+    (row (5 ∷ 6 ∷ 7 ∷ 8 ∷ []) 15 8 9 (domain 6 6 1 2 3 4 5 6 7 ∷ []))
     (evict 2 7 0)
-    (row (5 ∷ 6 ∷ 9 ∷ 8 ∷ []) 15 8 11 (domain 12 12 1 3 4 4 5 7 7 ∷ []))
+    (row (5 ∷ 6 ∷ 9 ∷ 8 ∷ []) 15 8 11 (domain 6 6 1 3 4 4 5 7 7 ∷ []))
     ∷ []
 
 -- "A hit, found as above, is made invalid and not dirty; its tag and all replacement bits stay."
@@ -450,21 +358,21 @@ resets =
 -- "Bits and words not named stay": those at W and above. Of two ways, 65,532 has the bits of a map from 2 on, and 2 ^ 64 - 4 those of a word.
 abbrev highBits : List Case
 highBits =
-    -- a fill under Tree-PLRU: the word was 2 ^ 64 - 2
+    -- a fill under Tree-PLRU: the word was 2 ^ 64 - 1
     after (plru 1 2) (stores 0 (line 7))
-    (row (5 ∷ 6 ∷ []) 65532 65532 18446744073709551614 (domain 3 3 1 2 3 4 5 6 7 ∷ []))
-    (fill 0)
-    (row (7 ∷ 6 ∷ []) 65533 65533 18446744073709551615 (domain 3 3 1 3 3 4 5 7 7 ∷ []))
+    (row (5 ∷ 6 ∷ []) 65532 65532 18446744073709551615 (domain 3 3 1 2 3 4 5 6 7 ∷ []))
+    (fill 1)
+    (row (5 ∷ 7 ∷ []) 65534 65534 18446744073709551614 (domain 3 3 1 3 3 4 5 7 7 ∷ []))
     -- a fill under NRU, where they are zero
     ∷ after (nru 1 2) (stores 0 (line 7))
     (row (5 ∷ 6 ∷ []) 0 0 3 (domain 3 3 1 2 3 4 5 6 7 ∷ []))
-    (fill 0)
-    (row (7 ∷ 6 ∷ []) 1 1 2 (domain 3 3 1 3 3 4 5 7 7 ∷ []))
+    (fill 1)
+    (row (5 ∷ 7 ∷ []) 2 2 1 (domain 3 3 1 3 3 4 5 7 7 ∷ []))
     -- an eviction: no bit of the fill map is one, whatever stands above
     ∷ after (nru 1 2) (loads 0 (line 7))
     (row (5 ∷ 6 ∷ []) 65535 65535 18446744073709551612 (domain 3 3 1 2 3 4 5 6 7 ∷ []))
-    (evict 0 5 1)
-    (row (7 ∷ 6 ∷ []) 65535 65534 18446744073709551614 (domain 3 3 1 3 4 5 5 7 7 ∷ []))
+    (evict 1 6 1)
+    (row (5 ∷ 7 ∷ []) 65535 65533 18446744073709551613 (domain 3 3 1 3 4 5 5 7 7 ∷ []))
     -- a hit
     ∷ after (nru 1 2) (stores 0 (line 6))
     (row (5 ∷ 6 ∷ []) 65535 65532 18446744073709551615 (domain 3 3 1 2 3 4 5 6 7 ∷ []))

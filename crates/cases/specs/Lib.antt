@@ -1,6 +1,8 @@
--- The worked cases: document 01's, those of document 02's jobs 1 and 2, and our own on lent states.
+-- The worked cases: document 01's, those of document 02's jobs 1, 2, 4 and 8, and our own on lent states.
 pub mod Case
+pub mod States
 pub mod Orders
 pub mod Visits
+pub mod Choices
 pub mod Lent
 pub mod Cases

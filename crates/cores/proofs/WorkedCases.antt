@@ -36,8 +36,8 @@ pub run : coreAnswers small
     (given
     ++ does 3 40 (writes 0 1 2) ∷ does 3 33 64 ∷ does 3 32 64 ∷ does 3 34 64 ∷ does 3 35 64 ∷ does 3 40 (writes 0 0 0) ∷ does 3 34 64 ∷ does 3 33 64 ∷ [])
     (freshLent small 32)
-    ≡ (6 ∷ 0 ∷ 0 ∷ []) ∷ (6 ∷ 0 ∷ 0 ∷ []) ∷ (8 ∷ 0 ∷ 1 ∷ 2 ∷ []) ∷ (1 ∷ 2 ∷ []) ∷ (1 ∷ 0 ∷ []) ∷ (7 ∷ 6 ∷ []) ∷ (4 ∷ 2 ∷ 0 ∷ []) ∷ (8 ∷ 0 ∷ 0 ∷ 0 ∷ [])
-    ∷ (0 ∷ 0 ∷ []) ∷ (0 ∷ 0 ∷ []) ∷ []
+    ≡ (6 ∷ 0 ∷ 0 ∷ []) ∷ (6 ∷ 0 ∷ 0 ∷ []) ∷ (8 ∷ 0 ∷ 1 ∷ 2 ∷ []) ∷ (1 ∷ 3 ∷ []) ∷ (1 ∷ 1 ∷ []) ∷ (7 ∷ 6 ∷ []) ∷ (4 ∷ 3 ∷ 0 ∷ []) ∷ (8 ∷ 0 ∷ 0 ∷ 0 ∷ [])
+    ∷ (0 ∷ 1 ∷ []) ∷ (0 ∷ 1 ∷ []) ∷ []
 unfolding coreComputing
 run = refl
 
@@ -52,7 +52,7 @@ answer cores i k a = coreStep small (does i k a) (record { cache = cache; cores 
 
 -- "at most 32 records": 32 stand, and core 31 is among them, core 32 is not; 33 are 11 for every kind, also a load by a domain, a policy, an unknown kind
 pub record Numbers : Type 0 where
-  pub stands : answer (freshCores 32) 31 33 0 ≡ 1 ∷ 0 ∷ []
+  pub stands : answer (freshCores 32) 31 33 0 ≡ 1 ∷ 1 ∷ []
   pub beyond : answer (freshCores 32) 32 33 0 ≡ 7 ∷ 11 ∷ []
   pub write-beyond : answer (freshCores 32) 32 40 0 ≡ 7 ∷ 11 ∷ []
   pub load : answer (freshCores 33) 0 1 0 ≡ 7 ∷ 11 ∷ []
@@ -66,7 +66,7 @@ pub record Numbers : Type 0 where
 pub record NoRecords : Type 0 where
   pub by-core : answer [] 0 33 0 ≡ 7 ∷ 11 ∷ []
   pub write : answer [] 16 40 0 ≡ 7 ∷ 11 ∷ []
-  pub load : answer [] 0 1 0 ≡ 1 ∷ 0 ∷ []
+  pub load : answer [] 0 1 0 ≡ 1 ∷ 1 ∷ []
   pub no-list : stepOn small (does 0 33 0) cache .answer ≡ 7 ∷ 4 ∷ []
   pub no-list-write : stepOn small (does 0 40 0) cache .answer ≡ 7 ∷ 4 ∷ []
   pub no-list-beyond : stepOn small (does 16 33 0) cache .answer ≡ 7 ∷ 3 ∷ []
@@ -87,7 +87,7 @@ pub record Before : Type 0 where
 -- "A stored selector of 16 or more makes a step through it 3", and no other; domain 15 stands.
 pub record Stored : Type 0 where
   pub through-ds : answer (selects 0 16 0 ∷ []) 0 33 0 ≡ 7 ∷ 3 ∷ []
-  pub through-cs : answer (selects 0 16 0 ∷ []) 0 32 0 ≡ 1 ∷ 0 ∷ []
+  pub through-cs : answer (selects 0 16 0 ∷ []) 0 32 0 ≡ 1 ∷ 1 ∷ []
   pub through-es : answer (selects 0 0 255 ∷ []) 0 34 0 ≡ 7 ∷ 3 ∷ []
   pub fifteen : answer (selects 0 15 0 ∷ []) 0 33 0 ≡ 7 ∷ 6 ∷ []
 

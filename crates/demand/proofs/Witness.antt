@@ -39,20 +39,20 @@ abbrev tree : Geometry
 tree = record { sets = 2; ways = 4; rule = 0 }
 
 -- Domain 0 gets ways 0 and 2. Domain 1 asks for way 2, for ways 1 and 3, whose root is domain 0's too, and for way 3. Then both work: domain 0 stores
--- to line 0, loads lines 2, 1 and 4 and flushes line 4; domain 1 loads and flushes line 0.
+-- to line 0, loads lines 2, 1, 4 and 2 again and flushes line 4; domain 1 loads and flushes line 0.
 abbrev steps : List Command
 steps =
     does 0 16 (both 5) ∷ does 1 16 (both 4) ∷ does 1 16 (both 10) ∷ does 1 16 (both 8) ∷ does 0 2 0 ∷ does 1 1 0 ∷ does 0 1 128 ∷ does 0 1 64
-    ∷ does 0 1 256 ∷ does 1 3 0 ∷ does 0 3 256 ∷ []
+    ∷ does 0 1 256 ∷ does 1 3 0 ∷ does 0 1 128 ∷ does 0 3 256 ∷ []
 
 -- Domain 0 sees its answers, the three verdicts, its record, its ways 0 and 2 of each set, and node 0 of each word.
 abbrev seenByZero : Seen
 seenByZero = record {
-  answers = (6 ∷ 0 ∷ 0 ∷ []) ∷ (1 ∷ 0 ∷ []) ∷ (1 ∷ 2 ∷ []) ∷ (1 ∷ 0 ∷ []) ∷ (2 ∷ 0 ∷ 0 ∷ 1 ∷ []) ∷ (4 ∷ 0 ∷ 0 ∷ []) ∷ [];
+  answers = (6 ∷ 0 ∷ 0 ∷ []) ∷ (1 ∷ 2 ∷ []) ∷ (1 ∷ 0 ∷ []) ∷ (1 ∷ 2 ∷ []) ∷ (2 ∷ 2 ∷ 0 ∷ 1 ∷ []) ∷ (0 ∷ 0 ∷ []) ∷ (4 ∷ 2 ∷ 0 ∷ []) ∷ [];
   verdicts = refused 8 ∷ refused 9 ∷ accepted ∷ [];
-  domain = record { hit = 5; fill = 5; counts = record { hits = 0; misses = 4; evicted = 1; written = 1; flushed = 1; fills = 4; dropped = 0 } };
-  lines = ((0 ∷ 0 ∷ 2 ∷ []) ∷ [] ∷ (1 ∷ 0 ∷ 1 ∷ []) ∷ [] ∷ []) ∷ ((1 ∷ 0 ∷ 0 ∷ []) ∷ [] ∷ (0 ∷ 0 ∷ 0 ∷ []) ∷ [] ∷ []) ∷ [];
-  bits = ((1 ∷ []) ∷ [] ∷ [] ∷ [] ∷ []) ∷ ((1 ∷ []) ∷ [] ∷ [] ∷ [] ∷ []) ∷ [];
+  domain = record { hit = 5; fill = 5; counts = record { hits = 1; misses = 4; evicted = 1; written = 1; flushed = 1; fills = 4; dropped = 0 } };
+  lines = ((1 ∷ 0 ∷ 1 ∷ []) ∷ [] ∷ (0 ∷ 0 ∷ 2 ∷ []) ∷ [] ∷ []) ∷ ((0 ∷ 0 ∷ 0 ∷ []) ∷ [] ∷ (1 ∷ 0 ∷ 0 ∷ []) ∷ [] ∷ []) ∷ [];
+  bits = ((1 ∷ []) ∷ [] ∷ [] ∷ [] ∷ []) ∷ ((0 ∷ []) ∷ [] ∷ [] ∷ [] ∷ []) ∷ [];
   pairs = replicate 2 (replicate 4 (replicate 4 []));
 }
 
@@ -83,17 +83,17 @@ abbrev turns : List Command
 turns =
     does 0 16 (both 5) ∷ does 1 16 (both 10) ∷ does 0 1 0 ∷ does 1 1 0 ∷ does 0 1 64 ∷ does 1 1 64 ∷ does 0 1 0 ∷ does 1 1 0 ∷ []
 
--- Domain 0 sees that its way 0 stands before its way 2, and no other pair.
+-- Domain 0 sees that its way 2 stands before its way 0, and no other pair.
 abbrev seenInTurn : Seen
 seenInTurn = record {
-  answers = (6 ∷ 0 ∷ 0 ∷ []) ∷ (1 ∷ 0 ∷ []) ∷ (1 ∷ 2 ∷ []) ∷ (0 ∷ 0 ∷ []) ∷ [];
+  answers = (6 ∷ 0 ∷ 0 ∷ []) ∷ (1 ∷ 2 ∷ []) ∷ (1 ∷ 0 ∷ []) ∷ (0 ∷ 2 ∷ []) ∷ [];
   verdicts = accepted ∷ [];
   domain = record { hit = 5; fill = 5; counts = record { hits = 1; misses = 2; evicted = 0; written = 0; flushed = 0; fills = 2; dropped = 0 } };
-  lines = ((1 ∷ 0 ∷ 0 ∷ []) ∷ [] ∷ (1 ∷ 0 ∷ 1 ∷ []) ∷ [] ∷ []) ∷ [];
+  lines = ((1 ∷ 0 ∷ 1 ∷ []) ∷ [] ∷ (1 ∷ 0 ∷ 0 ∷ []) ∷ [] ∷ []) ∷ [];
   bits = replicate 1 (replicate 4 []);
   pairs =
       (
-      ((false ∷ []) ∷ [] ∷ (true ∷ []) ∷ [] ∷ []) ∷ replicate 4 [] ∷ ((false ∷ []) ∷ [] ∷ (false ∷ []) ∷ [] ∷ []) ∷ replicate 4 [] ∷ []
+      ((false ∷ []) ∷ [] ∷ (false ∷ []) ∷ [] ∷ []) ∷ replicate 4 [] ∷ ((true ∷ []) ∷ [] ∷ (false ∷ []) ∷ [] ∷ []) ∷ replicate 4 [] ∷ []
       ) ∷ [];
 }
 
@@ -103,12 +103,12 @@ wordsAfter cs = end lru cs (fresh lru) .tables .words
 
 -- ---- computed
 
-pub computed : (seenIn tree 0 steps ≡ seenByZero) × (seenIn nru 0 brief ≡ seenBriefly) × (length (struckOut 0 steps) ≡ 9)
+pub computed : (seenIn tree 0 steps ≡ seenByZero) × (seenIn nru 0 brief ≡ seenBriefly) × (length (struckOut 0 steps) ≡ 10)
 unfolding seenIn seen bits isOwn pairs isPair lines each domainAt verdicts verdictOf ownAnswers struckOut end events fresh isFree freeFrom someIn digit
     isOrder placeOf wayAt howMany firstOf freshWord computing
 computed = (refl, refl, refl)
 
-pub computed-order : (seenIn lru 0 turns ≡ seenInTurn) × (wordsAfter turns ≡ 0x2301 ∷ []) × (wordsAfter (struckOut 0 turns) ≡ 0x1320 ∷ [])
+pub computed-order : (seenIn lru 0 turns ≡ seenInTurn) × (wordsAfter turns ≡ 0x0123 ∷ []) × (wordsAfter (struckOut 0 turns) ≡ 0x1302 ∷ [])
 unfolding seenIn seen bits isOwn pairs isPair lines each domainAt verdicts verdictOf ownAnswers struckOut end events fresh isFree freeFrom someIn digit
     isOrder placeOf wayAt howMany firstOf freshWord computing
 computed-order = (refl, refl, refl)
@@ -117,5 +117,5 @@ computed-order = (refl, refl, refl)
 pub told-apart : Indistinguishable tree 0 steps [] → ⊥
 unfolding seenIn seen ownAnswers events
 told-apart same =
-    let six : _≡_ {A = ℕ} 6 0 = ap (λ (s : Seen). length (s .answers)) (sym (computed .0) ∙ same .same) in
+    let seven : _≡_ {A = ℕ} 7 0 = ap (λ (s : Seen). length (s .answers)) (sym (computed .0) ∙ same .same) in
     omega arith

@@ -1,4 +1,4 @@
--- Cases A, F and G of document 01, by computing.
+-- Cases A, F and G of document 01, A with the ways of document 02's job 8, by computing.
 use mathlib.Core.Path.{_≡_, refl}
 use mathlib.Core.List.{List, [], _∷_}
 use Rattle.domains.specs.Domains.{domainOf}
@@ -16,12 +16,12 @@ abbrev pub stepsA : List Command
 stepsA =
     does 0 16 (both 3) ∷ does 1 16 (both 12) ∷ does 0 2 0 ∷ does 0 1 64 ∷ does 1 1 0 ∷ does 0 1 128 ∷ does 0 3 64 ∷ does 2 1 0 ∷ does 0 1 128 ∷ []
 
--- policy 0 0, policy 0 0, fill 0, fill 1, fill 2, evict 0 0 1, flush 1 0, refused 6, hit 0; "domain 0 1 3 1 1 1", "domain 1 0 1 0 0 0"; and
--- document 02, job 6: "the line of domain 0 then ends in 3 0"
+-- policy 0 0, policy 0 0; by document 02, job 8, "fill 1, fill 0, fill 3, evict 1 0 1, flush 0 0, refused 6, hit 1"; "domain 0 1 3 1 1 1",
+-- "domain 1 0 1 0 0 0"; and by job 6 "the line of domain 0 then ends in 3 0"
 pub record CaseA : Type 0 where
   pub answers : answersOf geometryA stepsA (fresh geometryA)
-      ≡ (6 ∷ 0 ∷ 0 ∷ []) ∷ (6 ∷ 0 ∷ 0 ∷ []) ∷ (1 ∷ 0 ∷ []) ∷ (1 ∷ 1 ∷ []) ∷ (1 ∷ 2 ∷ []) ∷ (2 ∷ 0 ∷ 0 ∷ 1 ∷ []) ∷ (4 ∷ 1 ∷ 0 ∷ []) ∷ (7 ∷ 6 ∷ [])
-      ∷ (0 ∷ 0 ∷ []) ∷ []
+      ≡ (6 ∷ 0 ∷ 0 ∷ []) ∷ (6 ∷ 0 ∷ 0 ∷ []) ∷ (1 ∷ 1 ∷ []) ∷ (1 ∷ 0 ∷ []) ∷ (1 ∷ 3 ∷ []) ∷ (2 ∷ 1 ∷ 0 ∷ 1 ∷ []) ∷ (4 ∷ 0 ∷ 0 ∷ []) ∷ (7 ∷ 6 ∷ [])
+      ∷ (0 ∷ 1 ∷ []) ∷ []
   pub counts-0 : domainOf (finally geometryA stepsA (fresh geometryA) .domains) 0 .counts
       ≡ record { hits = 1; misses = 3; evicted = 1; written = 1; flushed = 1; fills = 3; dropped = 0 }
   pub counts-1 : domainOf (finally geometryA stepsA (fresh geometryA) .domains) 1 .counts

@@ -28,7 +28,7 @@ use Rattle.locking.specs.Locking.{Answered, Stands, Unspent, strike, res
 abbrev small : Geometry
 small = record { sets = 1; ways = 8; rule = 0 }
 
--- Domain 3 gets ways 0 to 3, fills them with lines 0 to 3, and leaves ways 0 and 3 out of its fill map: lines 0 and 3 are locked.
+-- Domain 3 gets ways 0 to 3, fills them from way 3 down with lines 0 to 3, and leaves ways 0 and 3 out of its fill map: lines 0 and 3 are locked.
 abbrev past : List Command
 past =
     does 3 16 (both 15) ∷ does 3 1 0 ∷ does 3 1 64 ∷ does 3 1 128 ∷ does 3 1 192 ∷ does 3 16 (15 + 65536 * 6) ∷ []
@@ -44,11 +44,11 @@ then = finally small past (fresh small)
 
 record Locks : Type 0 where
   lines : (isLocked small 3 then 0 ≡ true) × (isLocked small 3 then 64 ≡ false) × (isLocked small 3 then 128 ≡ false) × (isLocked small 3 then 192 ≡ true)
-  way : lockedIn small 3 then 192 3 ≡ true
+  way : lockedIn small 3 then 192 0 ≡ true
   answers : answersOf small further then
-      ≡ (0 ∷ 1 ∷ []) ∷ (0 ∷ 3 ∷ []) ∷ (2 ∷ 2 ∷ 2 ∷ 0 ∷ []) ∷ (0 ∷ 0 ∷ []) ∷ (2 ∷ 1 ∷ 1 ∷ 0 ∷ []) ∷ (0 ∷ 0 ∷ []) ∷ (0 ∷ 3 ∷ []) ∷ []
+      ≡ (0 ∷ 2 ∷ []) ∷ (0 ∷ 0 ∷ []) ∷ (2 ∷ 1 ∷ 2 ∷ 0 ∷ []) ∷ (0 ∷ 3 ∷ []) ∷ (2 ∷ 2 ∷ 1 ∷ 0 ∷ []) ∷ (0 ∷ 3 ∷ []) ∷ (0 ∷ 0 ∷ []) ∷ []
   left : rest small 3 then further ≡ does 3 1 64 ∷ does 3 1 256 ∷ does 3 1 320 ∷ []
-  left-answers : ownAnswers small 3 (rest small 3 then further) then ≡ (0 ∷ 1 ∷ []) ∷ (2 ∷ 2 ∷ 2 ∷ 0 ∷ []) ∷ (2 ∷ 1 ∷ 1 ∷ 0 ∷ []) ∷ []
+  left-answers : ownAnswers small 3 (rest small 3 then further) then ≡ (0 ∷ 2 ∷ []) ∷ (2 ∷ 1 ∷ 2 ∷ 0 ∷ []) ∷ (2 ∷ 2 ∷ 1 ∷ 0 ∷ []) ∷ []
 
 -- the list has no policy change, no flush, and no refusal
 stands : Stands small 3 (isLocked small 3 then) further then
@@ -72,8 +72,8 @@ unspent = (fine, (fine, (fine, (fine, (fine, (fine, (fine, tt)))))))
 
 -- the dirty mark of a locked line, and the hits: four less
 record Differs : Type 0 where
-  dirty : bit (rowAt 8 0 (finally small further then .tables) .dirty) 0 ≡ true
-  clean : bit (rowAt 8 0 (finally small (rest small 3 then further) then .tables) .dirty) 0 ≡ false
+  dirty : bit (rowAt 8 0 (finally small further then .tables) .dirty) 3 ≡ true
+  clean : bit (rowAt 8 0 (finally small (rest small 3 then further) then .tables) .dirty) 3 ≡ false
   hits : domainOf (finally small further then .domains) 3 .counts .hits ≡ 5
   fewer : domainOf (finally small (rest small 3 then further) then .domains) 3 .counts .hits ≡ 1
 
@@ -115,13 +115,13 @@ start = record { tags = 0 ∷ 0 ∷ 0 ∷ 0 ∷ 0 ∷ 0 ∷ 0 ∷ 0 ∷ []; vali
 abbrev after : Rule → List ℕ → Answer
 after R ts = access R inner 4 false (loads R inner ts (cleaned R all inner (loads R all (0 ∷ 1 ∷ 2 ∷ 3 ∷ []) start))) .answer
 
--- Under the rule as it is, way 2 is evicted with a load of the locked line 3 before and without it. Under the earlier one the load of line 3 has way 1
+-- Under the rule as it is, way 1 is evicted with a load of the locked line 3 before and without it. Under the earlier one the load of line 3 has way 2
 -- evicted, whose line was used last: what it answers to another step depends on the access to a locked line.
 record Steered : Type 0 where
-  with-it : after (tree 8) (1 ∷ 3 ∷ []) ≡ Evict 2 2 false
-  without-it : after (tree 8) (1 ∷ []) ≡ Evict 2 2 false
-  earlier-with : after earlier (1 ∷ 3 ∷ []) ≡ Evict 1 1 false
-  earlier-without : after earlier (1 ∷ []) ≡ Evict 2 2 false
+  with-it : after (tree 8) (1 ∷ 3 ∷ []) ≡ Evict 1 2 false
+  without-it : after (tree 8) (1 ∷ []) ≡ Evict 1 2 false
+  earlier-with : after earlier (1 ∷ 3 ∷ []) ≡ Evict 2 1 false
+  earlier-without : after earlier (1 ∷ []) ≡ Evict 1 2 false
 
 -- ---- false of tables that no run reaches: a line that is there twice is hit in its lowest way, locked or not
 

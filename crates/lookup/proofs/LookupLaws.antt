@@ -1,5 +1,5 @@
 -- What a hit lookup says of the way that it hits, and of those that it visits.
-use mathlib.Core.Path.{_≡_, sym, ap, ap₂, _∙_}
+use mathlib.Core.Path.{_≡_, refl, sym, ap, ap₂, _∙_}
 use mathlib.Core.Bool.{true, false, _&&_, and-true}
 use mathlib.Core.List.{List, [], _∷_, _++_, List·Mem}
 use Prim.Native.Nat.{ℕ, _≤_, _<_}
@@ -7,11 +7,16 @@ use native.Mathlib.Omega.{arith}
 use lib.Dec.{eqb, leb, ltb}
 use lib.ListN.{length, getD}
 use borrow.Author.Tests.{eqb-true, lt-ltb, le-ltb, le-leb}
-use Rattle.waymap.specs.Bits.{bit, lowest, members}
+use Rattle.waymap.specs.Bits.{bit, any, lowest, members}
 use Rattle.waymap.proofs.Booleans.{cases, and-left, and-right}
 use Rattle.waymap.proofs.WayLaws.{any-lowest, none-at, lowest-found, lowest-none, lowest-same}
 use Rattle.waymap.proofs.MemberLaws.{members-ext, members-up-to, members-at}
 use Rattle.lookup.specs.Lookup.{matches, isHit, hitWay, visits, SameVisited, SameFound}
+
+-- Of a tag that is valid in ways 1, 2 and 3 the lowest is hit: by computing.
+kept : (isHit (8 ∷ 5 ∷ 5 ∷ 5 ∷ []) 15 15 5 ≡ true) × (hitWay (8 ∷ 5 ∷ 5 ∷ 5 ∷ []) 15 15 5 ≡ 1)
+unfolding isHit hitWay matches any lowest bit
+kept = (refl, refl)
 
 module _ (tags : List ℕ) (valid hit tag : ℕ) where
   -- it hits where it finds a way

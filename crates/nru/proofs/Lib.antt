@@ -1,4 +1,3 @@
 -- The laws that the crates above cite.
 pub mod NruLaws
 pub mod NruWordLaws
-pub mod WorkedCases

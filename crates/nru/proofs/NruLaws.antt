@@ -1,14 +1,20 @@
 -- NRU, for every number W of ways: the victim lies in the map, and choice and word go by the map's own bits.
-use mathlib.Core.Path.{_≡_, ap₂}
+use mathlib.Core.Path.{_≡_, refl, ap₂}
 use mathlib.Core.Bool.{Bool, true, false, cond, _&&_, _||_, and-false}
 use Prim.Native.Nat.{ℕ, _<_}
 use lib.Dec.{eqb}
 use borrow.Author.Tests.{eqb-true}
-use Rattle.waymap.specs.Bits.{Bits, any}
+use Rattle.waymap.specs.Bits.{Bits, bit, word, any}
+use Rattle.waymap.specs.Encoder.{encode}
 use Rattle.waymap.proofs.Booleans.{cases, and-left}
 use Rattle.waymap.proofs.WayLaws.{any-ext, any-found, any-at}
 use Rattle.waymap.proofs.EncoderLaws.{encode-ext, encode-found}
 use Rattle.nru.specs.Nru.{before, victim, touch}
+
+-- Case I of document 01, for 8 ways, by computing. "NRU, map 6, word 0": by job 8 of document 02 "way 2, bits 1 and 0", those of ways 1 and 2 after its touch.
+pub case-i : (victim 8 (bit 6) (bit 0) ≡ 2) × (word 64 (touch (bit 6) 2 (before 8 (bit 6) (bit 0))) ≡ 2)
+unfolding victim before touch bit any encode word
+case-i = (refl, refl)
 
 -- two words agree on the ways of a map
 abbrev Agree : ℕ → Bits → Bits → Bits → Type 0

@@ -5,11 +5,12 @@ use lib.Dec.{eqb, ltb}
 use Rattle.waymap.specs.Bits.{Bits, any}
 use Rattle.waymap.specs.Encoder.{encode}
 
--- "The victim is the lowest way of the fill map whose bit is one; if there is none, all bits of the fill map become one and its lowest
--- way is the victim." The word before the touch, and the victim by that word.
+-- The word before the touch. Where no way of the fill map has a bit that is one, "all bits of the fill map become one".
 unfoldable pub before : ℕ → Bits → Bits → Bits
 before W m b w = cond (any W (λ v. m v && b v)) (b w) (m w || b w)
 
+-- The victim, a "way of the fill map whose bit is one" in that word: "among NRU ways whose bit is one, and for the NRU default, the highest way now wins"
+-- (document 02, job 8).
 unfoldable pub victim : ℕ → Bits → Bits → ℕ
 victim W m b = encode W (λ w. m w && before W m b w)
 

@@ -8,7 +8,7 @@ pub struct Choice {
     pub word: u64,
 }
 
-// The lowest way of the map whose bit is one; without one the map's bits become one, and its lowest way is chosen.
+// Of the ways of the map whose bit is one, that which the priority encoder gives; without one the map's bits become one, and the choice is among them.
 pub fn victim(word: u64, map: u16) -> Choice
     ensures { λ r. ⌜ r ≡ victimOf word map ⌝ }
 {

@@ -18,12 +18,20 @@ use Rattle.waymap.proofs.EncoderLaws.{encode-ext, encode-found}
 use Rattle.replacement.specs.Rule.{Rule}
 use Rattle.replacement.specs.Isolates.{Isolates}
 use Rattle.row.specs.Row.{Row, Effect, ways, isHit, hitWay, hitAt, vacant, filled, fillAt, evictAt, accessBy, access, flushAt, flush}
+use Rattle.lookup.specs.Lookup as Lookup
 use Rattle.lookup.proofs.LookupLaws.{hit-own}
 use Rattle.row.proofs.LookLaws as LookLaws
 use Rattle.policy.proofs.ReadLaws.{Cut}
 use Rattle.row.specs.View.{SameMatch, SameLine, SameView, SameRead}
 use Rattle.policy.specs.declared.Maps.{Maps}
 use Rattle.command.specs.declared.Answer.the-variants.{Hit, Fill, Evict, Pass, Flush}
+
+-- ---- the way that a miss fills, under any rule: of ways 1, 2 and 3, of which way 3 is valid, way 2, by computing
+
+filled-way : (R : Rule) → access R (record { hit = 14; fill = 14 }) 9 false (record { tags = 5 ∷ 6 ∷ 7 ∷ 8 ∷ []; valid = 8; dirty = 0; word = 0 }) .answer
+    ≡ Fill 2
+unfolding access accessBy fillAt vacant Lookup.isHit Lookup.matches any encode bit
+filled-way R = refl
 
 -- ---- one line
 

@@ -62,10 +62,11 @@ filled R fill tag store w x r = record {
   word = R .touch fill w x;
 }
 
--- "the lowest invalid way of the fill map is filled"
+-- An "invalid way of the fill map".
 unfoldable pub vacant : Row → ℕ → Bits
 vacant r fill w = bit fill w && not (bit (r .valid) w)
 
+-- One of those "is filled": "among invalid ways [...] the highest way now wins" (document 02, job 8).
 unfoldable pub fillAt : Rule → ℕ → ℕ → Bool → Row → Effect
 fillAt R fill tag store r =
     let w = encode (ways r) (vacant r fill) in

@@ -35,7 +35,7 @@ fn evict(tags: &mut [u64], lines: Lines, rule: usize, fill: u16, tag: u64, store
     }
 }
 
-// A miss with ways to fill: the lowest invalid way of the fill map is filled; without one the victim is evicted.
+// A miss with ways to fill: of the invalid ways of the fill map, that which the priority encoder gives is filled; without one the victim is evicted.
 pub fn bring(tags: &mut [u64], lines: Lines, rule: usize, fill: u16, tag: u64, store: bool) -> Done
     requires { ⌜ Usable (length (now tags)) rule fill ⌝ }
     requires { ⌜ any (length (now tags)) (bit fill) ≡ true ⌝ }

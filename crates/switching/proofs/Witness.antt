@@ -40,8 +40,8 @@ left = record { zero = refl; one = refl }
 -- ---- not empty: each domain's answers are its core steps' too, and the neighbour's policy is refused by 8 in both
 
 pub record Answers : Type 0 where
-  pub zero : ownCoreAnswers small 0 steps (freshLent small 2) ≡ (6 ∷ 0 ∷ 0 ∷ []) ∷ (1 ∷ 0 ∷ []) ∷ (0 ∷ 0 ∷ []) ∷ []
-  pub one : ownCoreAnswers small 1 steps (freshLent small 2) ≡ (6 ∷ 0 ∷ 0 ∷ []) ∷ (1 ∷ 2 ∷ []) ∷ (1 ∷ 3 ∷ []) ∷ (7 ∷ 8 ∷ []) ∷ []
+  pub zero : ownCoreAnswers small 0 steps (freshLent small 2) ≡ (6 ∷ 0 ∷ 0 ∷ []) ∷ (1 ∷ 1 ∷ []) ∷ (0 ∷ 1 ∷ []) ∷ []
+  pub one : ownCoreAnswers small 1 steps (freshLent small 2) ≡ (6 ∷ 0 ∷ 0 ∷ []) ∷ (1 ∷ 3 ∷ []) ∷ (1 ∷ 2 ∷ []) ∷ (7 ∷ 8 ∷ []) ∷ []
   pub others : coreVerdicts small 0 steps (freshLent small 2) ≡ 0 ∷ 8 ∷ []
   pub neighbour : domainOf (coreFinally small steps (freshLent small 2) .cache .domains) 1 .counts
       ≡ record { hits = 0; misses = 2; evicted = 0; written = 0; flushed = 0; fills = 2; dropped = 0 }

@@ -75,11 +75,14 @@ pub fn lowest_way(map: u16) -> usize
     u16::trailing_zeros(map) as usize
 }
 
-// The way that the priority encoder gives of the map, 16 where it is empty.
+// The way that the priority encoder gives of the map, the highest; 16 where the map is empty.
 pub fn encode(map: u16) -> usize
     ensures { λ r. ⌜ r ≡ encodeMap 16 (bit map) ⌝ }
 {
-    lowest_way(map)
+    if map == 0 {
+        return 16;
+    }
+    15 - (u16::leading_zeros(map) as usize)
 }
 
 // The map with the way made a member of it or not. No map has way 16 or more.

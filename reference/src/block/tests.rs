@@ -58,31 +58,32 @@ fn fresh_blocks() {
     assert_eq!(nonzero(&large).len(), 3 + 2 * 4096);
 }
 
-/// Case A, step by step: document 01 has its listing.
+/// Case A, step by step: document 01 has its listing, and document 02 the ways in it. Behind each step's answer are the
+/// nodes: the touch of way 0 turns node 1 to the right, and that of way 1 back. At the end all are zero again.
 #[test]
 fn case_a() {
     let mut block = made(1, 4, 0);
     let steps = [
-        (0, POLICY, maps(3, 3), [6, 0, 0, 0]),
-        (1, POLICY, maps(12, 12), [6, 0, 0, 0]),
-        (0, STORE, 0, [1, 0, 0, 0]),
-        (0, LOAD, 64, [1, 1, 0, 0]),
-        (1, LOAD, 0, [1, 2, 0, 0]),
-        (0, LOAD, 128, [2, 0, 0, 1]),
-        (0, FLUSH, 64, [4, 1, 0, 0]),
-        (2, LOAD, 0, [7, 6, 0, 0]),
-        (0, LOAD, 128, [0, 0, 0, 0]),
+        (0, POLICY, maps(3, 3), [6, 0, 0, 0], 0b000),
+        (1, POLICY, maps(12, 12), [6, 0, 0, 0], 0b000),
+        (0, STORE, 0, [1, 1, 0, 0], 0b000),
+        (0, LOAD, 64, [1, 0, 0, 0], 0b010),
+        (1, LOAD, 0, [1, 3, 0, 0], 0b010),
+        (0, LOAD, 128, [2, 1, 0, 1], 0b000),
+        (0, FLUSH, 64, [4, 0, 0, 0], 0b000),
+        (2, LOAD, 0, [7, 6, 0, 0], 0b000),
+        (0, LOAD, 128, [0, 1, 0, 0], 0b000),
     ];
-    for (domain, kind, argument, fields) in steps {
+    for (domain, kind, argument, fields, nodes) in steps {
         let number = if fields[0] == 7 { 6 } else { 0 };
         assert_eq!(done(&mut block, domain, kind, argument), (number, fields));
+        assert_eq!(block[524..532], [nodes, 0, 0, 0, 0, 0, 0, 0]);
     }
     let counts = |domain: usize| [0, 4, 8, 12, 16, 20, 24].map(|count| block[72 + 28 * domain + count]);
     assert_eq!((counts(0), counts(1), counts(2)), ([1, 3, 1, 1, 1, 3, 0], [0, 1, 0, 0, 0, 1, 0], [0; 7]));
     assert_eq!((block[8], block[10], block[40], block[42]), (3, 12, 3, 12));
-    assert_eq!((block[520], block[522]), (0b0101, 0), "valid and dirty");
-    // The touches of ways 0 and 2 turned nodes 1 and 2 to the right. The flush left the tag of way 1.
-    assert_eq!((block[524], [0, 8, 16, 24].map(|way| block[532 + way])), (0b110, [2, 1, 0, 0]));
+    assert_eq!((block[520], block[522]), (0b1010, 0), "valid and dirty");
+    assert_eq!([0, 8, 16, 24].map(|way| block[532 + way]), [1, 2, 0, 0], "tags: the flush left that of way 0");
 }
 
 /// The bytes that each step changes, by hand: two sets of two ways, the parts of the tables at 520, 524, 528 and 544.
@@ -103,8 +104,10 @@ fn layout() {
     let counts_and_maps = [(72 + 420 + 4, 1), (72 + 420 + 20, 1), (522, 2), (526, 2)];
     assert_eq!(changed(15, STORE, 64 * line), [&counts_and_maps[..], &tag].concat());
     assert_eq!(changed(15, POLICY, maps(3, 3)), [(70, 3)]);
-    // The touch of way 0 points node 0, of the other set's word, to the right.
-    assert_eq!(changed(15, FETCH, 0), [(496, 2), (512, 2), (520, 1), (528, 1)]);
+    // Two lines of the other set, with tags 0 and 1: way 1 is filled, whose touch leaves node 0 as it is, and then way
+    // 0, whose touch points node 0 of that set's word to the right.
+    assert_eq!(changed(15, FETCH, 0), [(496, 2), (512, 2), (520, 2)]);
+    assert_eq!(changed(15, FETCH, 64 * 2), [(496, 3), (512, 3), (520, 3), (528, 1), (544, 1)]);
     assert_eq!(changed(15, FLUSH, 64 * line), [(72 + 420 + 12, 1), (72 + 420 + 16, 1), (522, 0), (526, 0)]);
     assert_eq!(changed(15, FLUSH, 64 * line), [], "absent");
     assert_eq!(changed(15, POLICY, maps(1, 1)).last(), Some(&(574, 0)), "cleaned: tag zero");

@@ -83,10 +83,10 @@ fn the_most_lines_that_a_change_drops() {
         let mut cache = Cache::fresh(geometry);
         cache.step(&policy(u16::MAX, u16::MAX));
         for line in 0..65_536 {
-            assert_eq!(cache.step(&store(line)), Answer::Fill { way: line as usize / 4096 });
+            assert_eq!(cache.step(&store(line)), Answer::Fill { way: 15 - line as usize / 4096 });
         }
         for line in 0..4096 {
-            assert_eq!(cache.step(&store(line)), Answer::Hit { way: 0 });
+            assert_eq!(cache.step(&store(line)), Answer::Hit { way: 15 });
         }
         let fresh_word = replacement::fresh_word(&geometry);
         assert!(!cache.replacement.contains(&fresh_word));
@@ -125,7 +125,7 @@ fn only_two_zero_maps_zero_the_counts() {
     assert_eq!(cache.step(&policy(0, 1)), Answer::Refused(Refusal::Argument));
 }
 
-/// A flush leaves the tag and the replacement bits, and its way is then the lowest invalid one.
+/// A flush leaves the tag and the replacement bits, and its way is then the highest invalid one.
 #[test]
 fn a_flush_leaves_tag_and_replacement_bits() {
     let mut cache = cache(4, Rule::Nru);
@@ -133,31 +133,32 @@ fn a_flush_leaves_tag_and_replacement_bits() {
     cache.step(&store(8));
     cache.step(&store(9));
     let (tags, word) = (cache.tags.clone(), cache.replacement[0]);
-    assert_eq!(cache.step(&flush(8)), Answer::Flush { way: 0, dirty: true });
+    assert_eq!(cache.step(&flush(8)), Answer::Flush { way: 3, dirty: true });
     assert_eq!((&cache.tags, cache.replacement[0]), (&tags, word));
     assert_eq!(cache.step(&flush(8)), Answer::Absent);
-    assert_eq!(cache.step(&store(10)), Answer::Fill { way: 0 });
+    assert_eq!(cache.step(&store(10)), Answer::Fill { way: 3 });
 }
 
-/// Way 0 is locked: hit, never filled. Its touch moves no NRU bit.
+/// Way 1, the one filled first, is locked: hit, never filled again. Its touch moves no NRU bit, and it is not the
+/// default when way 0 has not its bit.
 #[test]
 fn a_locked_way_is_hit_and_not_filled() {
     let mut cache = cache(2, Rule::Nru);
     cache.step(&policy(3, 3));
-    cache.step(&store(0));
-    cache.step(&policy(3, 2));
+    assert_eq!(cache.step(&store(0)), Answer::Fill { way: 1 });
+    cache.step(&policy(3, 1));
     assert_eq!(cache.replacement[0], 0b11);
-    assert_eq!(cache.step(&store(1)), Answer::Fill { way: 1 });
-    assert_eq!(cache.step(&store(2)), Answer::Evict { way: 1, tag: 1, dirty: true });
-    assert_eq!(cache.step(&store(0)), Answer::Hit { way: 0 });
-    assert_eq!(cache.replacement[0], 0b01);
+    assert_eq!(cache.step(&store(1)), Answer::Fill { way: 0 });
+    assert_eq!(cache.step(&store(2)), Answer::Evict { way: 0, tag: 1, dirty: true });
+    assert_eq!(cache.step(&store(0)), Answer::Hit { way: 1 });
+    assert_eq!(cache.replacement[0], 0b10);
 }
 
-/// Lines 0 to 3 in ways 0 to 3; then ways 0 and 3 are locked, with lines 0 and 3 in them.
+/// Lines 3 to 0, in this order, so that line w is in way w; then ways 0 and 3 are locked, with lines 0 and 3 in them.
 fn locked(rule: Rule) -> Cache {
     let mut cache = cache(4, rule);
     cache.step(&policy(0b1111, 0b1111));
-    for line in 0..4 {
+    for line in (0..4).rev() {
         assert_eq!(cache.step(&Step { kind: 1, ..store(line) }), Answer::Fill { way: line as usize });
     }
     cache.step(&policy(0b1111, 0b0110));
@@ -180,39 +181,44 @@ fn a_hit_in_a_locked_way_leaves_the_word_under_every_rule() {
     }
 }
 
-/// Node 0 is free for ways 1 and 2, and on the path to each way. The hit in way 1 turns it right and the fill of way 2
-/// left; locked hits leave it, so that the way used longer ago is evicted. If they turned it, a hit in way 3 would push
-/// out line 1, and a hit in way 0 line 4, each of them just used.
+/// Node 0 is free for ways 1 and 2, and on the path to each way. It points right at first, as way 0 was filled last.
+/// The hit in way 2 turns it left and the fill of way 1 right; locked hits leave it, so that the way used longer ago is
+/// evicted. If they turned it, a hit in way 0 would push out line 2, and a hit in way 3 line 4, each of them just used.
 #[test]
 fn a_hit_in_a_locked_way_does_not_steer() {
     for locked_line in [0, 3] {
         let mut cache = locked(Rule::TreePlru);
-        assert_eq!(cache.step(&store(1)), Answer::Hit { way: 1 });
-        assert_eq!(cache.step(&store(locked_line)), Answer::Hit { way: locked_line as usize });
         assert_eq!(cache.replacement[0], 0b001);
-        assert_eq!(cache.step(&store(4)), Answer::Evict { way: 2, tag: 2, dirty: false });
+        assert_eq!(cache.step(&store(2)), Answer::Hit { way: 2 });
         assert_eq!(cache.step(&store(locked_line)), Answer::Hit { way: locked_line as usize });
-        assert_eq!(cache.step(&store(5)), Answer::Evict { way: 1, tag: 1, dirty: true });
+        assert_eq!(cache.replacement[0], 0b000);
+        assert_eq!(cache.step(&store(4)), Answer::Evict { way: 1, tag: 1, dirty: false });
+        assert_eq!(cache.step(&store(locked_line)), Answer::Hit { way: locked_line as usize });
+        assert_eq!(cache.step(&store(5)), Answer::Evict { way: 2, tag: 2, dirty: true });
     }
 }
 
-/// A flushed line of a locked way is gone: the way is in no fill map, so that nothing fills it and a miss evicts.
+/// A flushed line of a locked way is gone: the way is in no fill map, so that nothing fills it and a miss evicts. Node
+/// 0 points right, to way 2, as at first in the test before.
 #[test]
 fn a_flushed_locked_way_stays_invalid() {
-    let mut cache = locked(Rule::TreePlru);
-    assert_eq!(cache.step(&store(0)), Answer::Hit { way: 0 });
-    assert_eq!(cache.step(&flush(0)), Answer::Flush { way: 0, dirty: true });
-    assert_eq!(cache.step(&store(0)), Answer::Evict { way: 1, tag: 1, dirty: false });
-    assert_eq!(cache.valid[0], 0b1110);
+    for (line, way) in [(0, 0), (3, 3)] {
+        let mut cache = locked(Rule::TreePlru);
+        assert_eq!(cache.step(&store(line)), Answer::Hit { way });
+        assert_eq!(cache.step(&flush(line)), Answer::Flush { way, dirty: true });
+        assert_eq!(cache.step(&store(line)), Answer::Evict { way: 2, tag: 2, dirty: false });
+        assert_eq!(cache.valid[0], 0b1111 & !only(way));
+    }
 }
 
 /// "A way handed over with its replacement bits as the last owner left them": node 0 points right when domain 0
-/// leaves, and left again for domain 1.
+/// leaves, and left again for domain 1. Domain 0 fills both ways, of which way 0 is the second and turns it right.
 #[test]
 fn replacement_bits_are_handed_over_clean() {
     let mut cache = cache(2, Rule::TreePlru);
     cache.step(&policy(3, 3));
     cache.step(&store(0));
+    cache.step(&store(1));
     assert_eq!(cache.replacement[0], 1);
     assert_eq!(cache.step(&of_domain(1, policy(3, 3))), Answer::Refused(Refusal::SharedWay));
     cache.step(&policy(0, 0));
@@ -255,7 +261,7 @@ fn overlapping_policies_are_read_as_they_are() {
     let mut cache = cache(4, Rule::Nru);
     cache.domains.store(0, Policy { hit_map: 7, fill_map: 7 });
     cache.domains.store(1, Policy { hit_map: 6, fill_map: 6 });
-    assert_eq!(cache.step(&of_domain(1, store(3))), Answer::Fill { way: 1 });
+    assert_eq!(cache.step(&of_domain(1, store(3))), Answer::Fill { way: 2 });
     assert_eq!(cache.step(&policy(3, 3)), Answer::Refused(Refusal::SharedWay));
     assert_eq!(cache.step(&policy(0, 0)), Answer::Policy { dropped: 1, dirty_dropped: 1 });
 }
@@ -331,6 +337,27 @@ fn of_two_equal_tags_the_lower_ends_the_visits() {
     assert_eq!(cache.find(0, 16, 0b0101_0010), (Some(4), 2));
 }
 
+/// Lent tables: tag 7 is valid in ways 2 and 5, and no other way is valid. A hit and a flush take the lower of the two,
+/// under every rule, and a fill takes the highest invalid way of the fill map: 6, 4, 3 and 1, and then, of the two that
+/// were flushed, 5. Way 7, which is locked, and way 0, which is in no map, are never filled.
+#[test]
+fn a_hit_takes_the_lowest_way_and_a_fill_the_highest() {
+    for rule in [Rule::TreePlru, Rule::Nru, Rule::Lru] {
+        let mut cache = cache(8, rule);
+        cache.domains.store(0, Policy { hit_map: 0b1111_1110, fill_map: 0b0111_1110 });
+        cache.valid[0] = 0b0010_0100;
+        cache.tags = vec![0, 0, 7, 0, 0, 7, 0, 0];
+        for (line, way) in [(20, 6), (21, 4), (22, 3), (23, 1)] {
+            assert_eq!(cache.step_and_visits(&store(7)), (Answer::Hit { way: 2 }, 2), "{rule:?}");
+            assert_eq!(cache.step_and_visits(&store(line)), (Answer::Fill { way }, 7), "{rule:?}");
+        }
+        assert_eq!(cache.step(&flush(7)), Answer::Flush { way: 2, dirty: true });
+        assert_eq!(cache.step(&flush(7)), Answer::Flush { way: 5, dirty: false });
+        assert_eq!(cache.step(&store(7)), Answer::Fill { way: 5 });
+        assert_eq!(cache.valid[0], 0b0111_1010);
+    }
+}
+
 /// Ways of W or more are left out, by the lookup itself and by a stored policy that is read.
 #[test]
 fn ways_of_w_or_more_are_not_visited() {
@@ -358,11 +385,12 @@ fn each_map_and_each_way_of_sixteen() {
     }
 }
 
-/// Every answer of an access or a flush has the visits of its lookup: ways 2, 5 and 6, which begin invalid.
+/// Every answer of an access or a flush has the visits of its lookup: ways 2, 5 and 6, which begin invalid. Way 6 is in
+/// the hit map alone, so that way 5 is the highest to be filled.
 #[test]
 fn every_access_and_flush_says_what_it_visited() {
     let mut cache = cache(8, Rule::Nru);
-    cache.step(&policy(0b0110_0100, 0b0110_0000));
+    cache.step(&policy(0b0110_0100, 0b0010_0100));
     let mut visits = |step: Step, answer: Answer| {
         let (answered, visited) = cache.step_and_visits(&step);
         assert_eq!(answered, answer);
@@ -370,9 +398,9 @@ fn every_access_and_flush_says_what_it_visited() {
     };
     assert_eq!(visits(flush(1), Answer::Absent), 3);
     assert_eq!(visits(store(1), Answer::Fill { way: 5 }), 3);
-    assert_eq!(visits(store(2), Answer::Fill { way: 6 }), 3);
+    assert_eq!(visits(store(2), Answer::Fill { way: 2 }), 3);
     assert_eq!(visits(Step { kind: 0, ..store(1) }, Answer::Hit { way: 5 }), 2);
-    assert_eq!(visits(Step { kind: 1, ..store(2) }, Answer::Hit { way: 6 }), 3);
+    assert_eq!(visits(Step { kind: 1, ..store(2) }, Answer::Hit { way: 2 }), 1);
     assert_eq!(visits(store(3), Answer::Evict { way: 5, tag: 1, dirty: true }), 3);
     assert_eq!(visits(flush(3), Answer::Flush { way: 5, dirty: true }), 2);
     assert_eq!(visits(flush(3), Answer::Absent), 3);

@@ -82,7 +82,8 @@ fn refused_files() {
     assert_eq!(of_file(&trace_file(1, 2, 0, &[])), "refused 10\n");
 }
 
-/// Case A on zeros, which are a fresh cache under Tree-PLRU: its listing, but for the lines of the domains.
+/// Case A on zeros, which are a fresh cache under Tree-PLRU: its listing, with the ways of document 02, but for the
+/// lines of the domains.
 #[test]
 fn case_a_on_zeros() {
     let steps = [
@@ -100,13 +101,13 @@ fn case_a_on_zeros() {
 1 4 0 9
 0 policy 0 0
 1 policy 0 0
-2 fill 0
-3 fill 1
-4 fill 2
-5 evict 0 0 1
-6 flush 1 0
+2 fill 1
+3 fill 0
+4 fill 3
+5 evict 1 0 1
+6 flush 0 0
 7 refused 6
-8 hit 0
+8 hit 1
 domain 0 3 3 1 3 1 1 1 3 0
 domain 1 12 12 0 1 0 0 0 1 0
 ";
@@ -155,17 +156,18 @@ fn the_tables_of_the_sets() {
     assert_eq!(lent.answers(8, 16, 0, &steps), answers);
 }
 
-/// All tags and replacement words are zero, and way 0 is hit. Under Tree-PLRU the root then points right; under NRU no
-/// way has its bit, so that the lowest is the victim, just hit as it is; under LRU zero is read as fresh.
+/// All tags and replacement words are zero, and way 0, the lowest, is hit. Under Tree-PLRU the root then points right;
+/// under NRU no way has its bit, so that the highest is the victim, and then the next; under LRU zero is read as fresh.
+/// Ways 1 and 3 are dirty, of which each rule evicts one.
 #[test]
 fn tags_and_replacement_words_are_zero() {
     let mut lent = Lent::zero();
     lent.records[0] = (15, 15, [0; COUNTS]);
     lent.valid[0] = 15;
-    lent.dirty[0] = 2;
+    lent.dirty[0] = 0b1010;
     let steps = [load(0, 0), load(0, 5), load(0, 6)];
     assert_eq!(lent.answers(1, 4, 0, &steps), ["0 hit 0", "1 evict 2 0 0", "2 evict 1 0 1"]);
-    assert_eq!(lent.answers(1, 4, 1, &steps), ["0 hit 0", "1 evict 0 0 0", "2 evict 1 0 1"]);
+    assert_eq!(lent.answers(1, 4, 1, &steps), ["0 hit 0", "1 evict 3 0 1", "2 evict 2 0 0"]);
     assert_eq!(lent.answers(1, 4, 2, &steps), ["0 hit 0", "1 evict 1 0 1", "2 evict 2 0 0"]);
 }
 

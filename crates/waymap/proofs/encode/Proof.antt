@@ -1,15 +1,21 @@
 -- `waymap::encode` meets its contract.
-use mathlib.Core.Path.{_∙_}
-use borrow.Author.Needs.{needs}
-use Rattle.waymap.proofs.EncoderLaws.{lowest-encode}
+use native.Mathlib.Omega.{arith}
+use lib.Count.{leading-le}
+use Rattle.waymap.proofs.EncoderLaws.{leading-lt, leading-encode, encode-empty}
 use Rattle.waymap.proofs.encode.Statement.{statement}
 use Rattle.waymap.proofs.encode.Tie as tie
 
-lowest-way-requires : tie.Need-lowest-way-requires
-lowest-way-requires c κs = search needs
-
 returns : tie.Need-returns
-returns c = c .lowest-way .ensures ∙ lowest-encode (c .before .args .map)
+returns c = encode-empty 16 (c .if1 .taken)
+
+cast-result : tie.Need-cast-result
+cast-result c = omega (arith, leading-le 16 (c .before .args .map))
+
+sub-result : tie.Need-sub-result
+sub-result c = omega (arith, leading-lt 16 (c .if1 .left) (c .before .fits .map .fits))
+
+returns-2 : tie.Need-returns-2
+returns-2 c = leading-encode 16 (c .if1 .left) (c .before .fits .map .fits)
 
 pub encode-spec : {M : Type 1} → statement M
-encode-spec = tie.close (tie.spec lowest-way-requires returns)
+encode-spec = tie.close (tie.spec returns cast-result sub-result returns-2)

@@ -70,7 +70,8 @@ fn an_evicting_fill_is_a_fill() {
     }
 }
 
-/// Sixteen lines in four sets of four ways, those of sets 1 and 3 dirty. Two ways are given up, then all but one.
+/// Sixteen lines in four sets of four ways, those of sets 1 and 3 dirty. Two ways are given up, then all but one. Line
+/// 12, the last of set 0, is in way 0, and is flushed between.
 #[test]
 fn drops_are_counted_in_all_sets_dirty_or_not() {
     let mut cache = Cache::fresh(Geometry { sets: 4, ways: 4, rule: Rule::Lru });
@@ -80,7 +81,7 @@ fn drops_are_counted_in_all_sets_dirty_or_not() {
     }
     assert_eq!(cache.step(&policy(0b0011, 0b0011)), accepted(8, 4));
     assert_eq!(ends(&cache, 0), [16, 8]);
-    assert_eq!(cache.step(&flush(0)), Answer::Flush { way: 0, dirty: false });
+    assert_eq!(cache.step(&flush(12)), Answer::Flush { way: 0, dirty: false });
     assert_eq!(cache.step(&policy(0b1001, 0b1001)), accepted(4, 2));
     assert_eq!(cache.domains.counts(0).in_order(), [0, 16, 0, 0, 1, 16, 12]);
     assert_eq!(held(&cache, 0), 3);
@@ -100,7 +101,8 @@ fn without_another_hit_map_nothing_is_dropped() {
     }
 }
 
-/// All seven counts are zeroed by a removal, which keeps no drops, and start from zero when the domain is back.
+/// All seven counts are zeroed by a removal, which keeps no drops, and start from zero when the domain is back. The
+/// line that it then loads is in way 1, which it gives up.
 #[test]
 fn a_removal_zeroes_seven_counts() {
     let mut cache = cache(2, Rule::Nru);
@@ -114,7 +116,7 @@ fn a_removal_zeroes_seven_counts() {
     cache.step(&policy(3, 3));
     assert_eq!(cache.domains.counts(0).in_order(), [0; 7]);
     cache.step(&load(0));
-    assert_eq!(cache.step(&policy(2, 2)), accepted(1, 0));
+    assert_eq!(cache.step(&policy(1, 1)), accepted(1, 0));
     assert_eq!(cache.domains.counts(0).in_order(), [0, 1, 0, 0, 0, 1, 1]);
 }
 
