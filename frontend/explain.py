@@ -12,12 +12,12 @@ from frontend.paint import Paint
 from frontend.run import Run
 from frontend.stepper import Block, Row
 from frontend.table import columns
-from frontend.tracefile import LRU, POLICY, Step
+from frontend.tracefile import LRU, NRU, POLICY, Step
 
 MOST_ROWS = 4
 _WIDTH = 100
 _COLOURS = {"refused": "red", "hit": "green"}
-_ONES = {0: ("right at node", "right at nodes"), 1: ("one at way", "one at ways")}
+_ONES = {0: ("right at node", "right at nodes"), NRU: ("one at way", "one at ways")}
 _BY_STATE = (6, 7, 8, 9)  # the refusals that depend on what the domains have
 _NO_ROWS = ("refused", "select")  # the answers of steps that change no row
 
@@ -56,7 +56,7 @@ class Explainer:
         yield self._paint("bold", f"step {place}  {words.step(step)}")
         if cores.place(step) is not None and after.domain is not None:
             yield f"  {words.route(step, after.domain)}"
-        yield from self._answer(answer, _said(step, answer, before, after))
+        yield from self._answer(answer, _said(step, answer, before, after) + self._choice(answer, before, after))
         if after.visited:
             yield f"  The lookup visited {counted(after.visited, 'way')}."
         if answer.word == "policy" or answer.word == "refused" and answer.fields[0] in _BY_STATE:
@@ -66,6 +66,12 @@ class Explainer:
         numbers = sorted(after.rows) if step.kind == POLICY else sorted({after.set, *after.rows})
         yield from self._changes(numbers, before, after)
         self._rows.update(after.rows)
+
+    def _choice(self, answer: Answer, before: Block, after: Block) -> str:
+        """Say how a victim was found, in a sentence to follow that of the answer; nothing but under NRU."""
+        if answer.word != "evict" or self._trace.rule != NRU:
+            return ""
+        return " " + words.nru_victim(self._rows[after.set].word, _of_domain(before.fill, after.domain))
 
     def _end(self) -> Iterator[str]:
         """Tell the counts of each domain that has ways, and where the lines went that it filled."""
@@ -162,9 +168,14 @@ def _maps(before: Block, after: Block) -> Iterator[str]:
         yield "  no domain has ways"
 
 
+def _of_domain(domain_maps: tuple[int, ...], domain: int | None) -> int:
+    """Give the map of a domain; empty for what is no domain."""
+    return domain_maps[domain] if domain is not None and domain < len(domain_maps) else 0
+
+
 def _locked(block: Block, domain: int | None) -> int:
-    """Give the map of the ways that are in a domain's hit map and not in its fill map; empty for what is no domain."""
-    return block.hit[domain] & ~block.fill[domain] if domain is not None and domain < len(block.hit) else 0
+    """Give the map of the ways that are in a domain's hit map and not in its fill map."""
+    return _of_domain(block.hit, domain) & ~_of_domain(block.fill, domain)
 
 
 def _holders(domain_maps: tuple[int, ...], way: int) -> str:

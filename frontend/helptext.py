@@ -99,6 +99,11 @@ An access and a flush that are not refused also say how many ways the hit lookup
 visited: the ways of the domain's hit map, lowest first, up to and including the
 one hit, or all of them without a hit. An invalid way of the map is counted.
 
+A miss fills the highest way of the domain's fill map that holds no valid line. If
+all of them hold one, the rule's victim is evicted, and under NRU it is said how it
+was found: it is the highest way of the fill map whose bit was one or, where none
+was, the highest of the fill map, whose bits all become one.
+
 A line that is hit or flushed in a way of the domain's hit map that is not in its
 fill map is said to be locked: no miss evicts it.
 

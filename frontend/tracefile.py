@@ -14,8 +14,8 @@ POLICY = 16
 KINDS = {0: "fetch", 1: "load", 2: "store", 3: "flush", POLICY: "policy"}
 SELECT = 40
 CORE_KINDS = {32: "fetch", 33: "load", 34: "store", 35: "flush", SELECT: "select"}  # of steps that name a core
-LRU = 2
-RULES = {0: "tree", 1: "nru", LRU: "lru"}
+NRU, LRU = 1, 2
+RULES = {0: "tree", NRU: "nru", LRU: "lru"}
 LARGEST_BYTE = 0xFF
 LARGEST_ARGUMENT = 0xFFFF_FFFF_FFFF_FFFF
 

@@ -5,9 +5,9 @@ from frontend import cores, maps
 from frontend.listing import Answer, Counts
 from frontend.numbers import counted, hexadecimal
 from frontend.stepper import Row
-from frontend.tracefile import CORE_KINDS, KINDS, LRU, POLICY, SELECT, Step, Trace
+from frontend.tracefile import CORE_KINDS, KINDS, LRU, NRU, POLICY, SELECT, Step, Trace
 
-_RULE_TITLES = {0: "Tree-PLRU", 1: "NRU", LRU: "true LRU"}
+_RULE_TITLES = {0: "Tree-PLRU", NRU: "NRU", LRU: "true LRU"}
 _KINDS = {**KINDS, **CORE_KINDS}
 _VERBS = {"fetch": "fetches", "load": "loads", "store": "stores", "flush": "flushes"}
 _PLACE = 4  # bits of a way's place in an order
@@ -110,6 +110,13 @@ def answer(given: Answer, locked: int = 0) -> str:
     return said
 
 
+def nru_victim(word: int, fill: int) -> str:
+    """Say how NRU found a victim, by the set's word and the domain's fill map before the step."""
+    if word & fill:
+        return "It is the highest way of the fill map whose bit was one."
+    return "No bit of the fill map was one: all became one, and its highest way is the victim, whose bit then became zero."
+
+
 def changed(given: Answer, taken: Step) -> str:
     """Say what an accepted policy change dropped, and what becomes of its domain's counts."""
     said, dropped = answer(given), given.fields[0]
@@ -141,7 +148,7 @@ def _policy(dropped: int, dirty: int) -> str:
 
 _SENTENCES = {
     "hit": lambda way: f"A hit in way {way}.",
-    "fill": lambda way: f"A miss: way {way}, which held no valid line, was filled.",
+    "fill": lambda way: f"A miss: way {way}, the highest of the domain's fill map that held no valid line, was filled.",
     "evict": _evict,
     "pass": lambda: "A miss that passed: the domain's fill map is empty, so nothing was filled.",
     "flush": _flush,

@@ -71,17 +71,18 @@ def evictions(trace):
 
 
 def policies(trace):
-    """Touches every set for both domains, then changes both maps of domain 1 to any ways of its half, and lets every
-    eighth step be a load. Domain 0 keeps its maps and loads the line in its way 0 only: in all sets the tree's nodes
-    1, 3 and 7 stay ones, and the NRU bits of ways 1 to 7, so that no change finds a word that is zero; an order of
-    LRU never is."""
+    """Loads tags 0 and 1 for domain 0 in every set, which fill ways 7 and 6, the highest of its half. Then changes both
+    maps of domain 1 to any ways of its half, and lets every eighth step be a load. Domain 0 keeps its maps and loads
+    the line in way 6 only: in all sets the tree's node 10, between these two ways, stays one, and the NRU bits of ways
+    0 to 5, so that no change finds a word that is zero; an order of LRU never is."""
     rng = trace.rng
-    for domain in (0, 1):
+    for tag in (0, 1):
         for number in range(SETS):
-            trace.add(domain, LOAD, address(number, 0))
+            trace.add(0, LOAD, address(number, tag))
     while len(trace.steps) < MOST_STEPS:
         if len(trace.steps) % 8 == 0:
-            trace.add(rng.randrange(2), LOAD, address(rng.randrange(SETS), 0))
+            domain = rng.randrange(2)
+            trace.add(domain, LOAD, address(rng.randrange(SETS), 1 if domain == 0 else 0))
         else:
             hit_map = submap(rng, UPPER) or UPPER
             trace.set_policy(1, hit_map, submap(rng, hit_map) or hit_map)

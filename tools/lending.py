@@ -144,9 +144,9 @@ class Lent(Trace):
         hit_map, fill_map = self.maps(domain)
         found, free = self.valid[number] & hit_map, fill_map & ~self.valid[number]
         if kind == FLUSH:
-            self.valid[number] &= ~(found & -found) if tag == 0 else -1
+            self.valid[number] &= ~(found & -found) if tag == 0 else -1  # the lowest of them is hit
         elif tag or not found:
-            self.valid[number] |= free & -free
+            self.valid[number] |= 1 << free.bit_length() >> 1  # the highest of them is filled, if there is one
 
     def lent_file(self, six_counts):
         """The file: the dropped counts are mostly such that changes reach the largest count, or nearly so."""

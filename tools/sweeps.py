@@ -14,7 +14,7 @@ import counting
 from comparing import agreed, run, short_path
 from counting import RULES
 from slices import SLICES
-from traces import STORE, Trace, header
+from traces import LOAD, STORE, Trace, header
 
 FEW, MANY = 256, 4096  # sets
 WAYS = [8, 16]
@@ -25,12 +25,14 @@ CHANGES = 64
 # The traces.
 
 def begun(geometry):
-    """A trace that gives all ways to domain 0, and lets it store to a line in each of 64 sets, spread over all sets."""
+    """A trace that gives way 0 to domain 0, and lets it store to a line in each of 64 sets, spread over all sets; then
+    it gives domain 0 all ways, and lets it load these lines. They are in way 0, which stays where half of the ways
+    move."""
     trace = Trace(random.Random(0), geometry)
-    whole = (1 << trace.ways) - 1
-    trace.set_policy(0, whole, whole)
-    for place in range(LINES):
-        trace.add(0, STORE, 64 * (place * trace.sets // LINES))
+    for ways_map, kind in ((1, STORE), ((1 << trace.ways) - 1, LOAD)):
+        trace.set_policy(0, ways_map, ways_map)
+        for place in range(LINES):
+            trace.add(0, kind, 64 * (place * trace.sets // LINES))
     return trace
 
 
@@ -81,7 +83,7 @@ HEAD = f"""\
 instructions that a policy change takes for a set, by callgrind: those for a trace with {CHANGES} changes at its end,
 less those for it without them, divided by {CHANGES} and by the sets. Domain 0 has all ways, and a line in {LINES} sets.
   all        all ways move: domain 0 is removed, and gets them back, in turn; the words are fresh from the first on
-  half       half of them move: domain 0 gives up the upper half, and gets it back, in turn
+  half       half of them move: domain 0 gives up the upper half, and gets it back, in turn; its lines are in way 0
   clearing   making the tables of a set fresh, by the proved program: those for a file without a step at {MANY:,} sets,
              less those at 1. Where memset uses rep stosb callgrind counts each byte, and there are 8 W in the tags
   entries    in the tables of a set: W tags, valid, dirty, and the replacement word

@@ -27,12 +27,12 @@ FILE = struct.pack("<HBBI", 1, 4, 0, 13) + _CODES + struct.pack("<13Q", *(step[2
 LISTING = b"""\
 1 4 0 13
 0 policy 0 0
-1 fill 0
+1 fill 2
 2 fill 1
-3 fill 2
+3 fill 0
 4 policy 0 0
 5 fill 3
-6 evict 0 0 1
+6 evict 2 0 1
 7 flush 1 0
 8 fill 1
 9 policy 1 0
@@ -54,24 +54,24 @@ _FULL = {**_THREE, 1: (0b1000, 0b1000)}
 _TWO = {0: (0b0011, 0b0011)}
 _LEFT = {**_TWO, 1: (0b1000, 0b1000)}
 _FRESH = _set(0, 0, 0, 0, 0, 0, 0)
-_FILLED = _set(0b0111, 0b0001, 0, 0, 1, 2, 0)
-_REMOVED = _set(0b0011, 0, 0, 3, 4, 0, 0)
+_FILLED = _set(0b0111, 0b0100, 0b011, 2, 1, 0, 0)
+_REMOVED = _set(0b0011, 0, 0, 2, 4, 0, 0)
 STREAM = b"".join(
     (
         block({}, 0, _FRESH),
         block(_THREE, 0, _FRESH, 0, 0),
-        block(_THREE, 0, _set(0b0001, 0b0001, 0b011, 0, 0, 0, 0), 3, 0),
-        block(_THREE, 0, _set(0b0011, 0b0001, 0b001, 0, 1, 0, 0), 3, 0),
-        block(_THREE, 0, _FILLED, 3, 0),  # node 2 is not free, and stays
+        block(_THREE, 0, _set(0b0100, 0b0100, 0b000, 0, 0, 0, 0), 3, 0),  # node 2 is not free, and stays
+        block(_THREE, 0, _set(0b0110, 0b0100, 0b001, 0, 1, 0, 0), 3, 0),
+        block(_THREE, 0, _FILLED, 3, 0),
         block(_FULL, 0, _FILLED, 0, 1),
-        block(_FULL, 0, _set(0b1111, 0b1001, 0, 0, 1, 2, 0), 1, 1),
-        block(_FULL, 0, _set(0b1111, 0b1000, 0b011, 3, 1, 2, 0), 3, 0),
-        block(_FULL, 0, _set(0b1101, 0b1000, 0b011, 3, 1, 2, 0), 2, 0),
-        block(_FULL, 0, _set(0b1111, 0b1000, 0b001, 3, 4, 2, 0), 3, 0),
-        block(_LEFT, 0, _set(0b1011, 0b1000, 0, 3, 4, 0, 0), 0, 0),  # node 0 is free no more, and becomes zero
+        block(_FULL, 0, _set(0b1111, 0b1100, 0b011, 2, 1, 0, 0), 1, 1),
+        block(_FULL, 0, _set(0b1111, 0b1000, 0b010, 2, 1, 3, 0), 3, 0),
+        block(_FULL, 0, _set(0b1101, 0b1000, 0b010, 2, 1, 3, 0), 2, 0),
+        block(_FULL, 0, _set(0b1111, 0b1000, 0b001, 2, 4, 3, 0), 3, 0),
+        block(_LEFT, 0, _set(0b1011, 0b1000, 0, 2, 4, 0, 0), 0, 0),  # node 0 is free no more, and becomes zero
         block(_TWO, 0, _REMOVED, 0, 1),
         block(_LEFT, 0, _REMOVED, 0, 1),
-        block(_LEFT, 0, _set(0b1011, 0, 0, 3, 4, 0, 1), 1, 1),
+        block(_LEFT, 0, _set(0b1011, 0, 0, 2, 4, 0, 1), 1, 1),
         held({0: 2, 1: 1}),
     )
 )

@@ -1,4 +1,4 @@
-"""Document 01's case A, written by hand: the text's bytes, the listing and the stepper's stream."""
+"""Case A, with the ways of document 02's job 8, written by hand: the text's bytes, the listing and the stepper's stream."""
 from __future__ import annotations
 
 import struct
@@ -14,13 +14,13 @@ LISTING = b"""\
 1 4 0 9
 0 policy 0 0
 1 policy 0 0
-2 fill 0
-3 fill 1
-4 fill 2
-5 evict 0 0 1
-6 flush 1 0
+2 fill 1
+3 fill 0
+4 fill 3
+5 evict 1 0 1
+6 flush 0 0
 7 refused 6
-8 hit 0
+8 hit 1
 domain 0 1 3 1 1 1 3 0
 domain 1 0 1 0 0 0 1 0
 """
@@ -28,19 +28,19 @@ domain 1 0 1 0 0 0 1 0
 _FIRST = {0: (3, 3)}
 _BOTH = {0: (3, 3), 1: (12, 12)}
 _FRESH = {0: Row(0, 0, 0, (0, 0, 0, 0))}
-_LAST = {0: Row(0b0101, 0, 0b110, (2, 1, 0, 0))}
+_LAST = {0: Row(0b1010, 0, 0b000, (1, 2, 0, 0))}
 STREAM = b"".join(
     (
         block({}, 0, _FRESH),
         block(_FIRST, 0, _FRESH, 0, 0),
         block(_BOTH, 0, _FRESH, 0, 1),
-        block(_BOTH, 0, {0: Row(0b0001, 1, 0b010, (0, 0, 0, 0))}, 2, 0),
-        block(_BOTH, 0, {0: Row(0b0011, 1, 0b000, (0, 1, 0, 0))}, 2, 0),
-        block(_BOTH, 0, {0: Row(0b0111, 1, 0b100, (0, 1, 0, 0))}, 2, 1),
-        block(_BOTH, 0, {0: Row(0b0111, 0, 0b110, (2, 1, 0, 0))}, 2, 0),
-        block(_BOTH, 0, _LAST, 2, 0),
-        block(_BOTH, 0, _LAST, 0, 2),
+        block(_BOTH, 0, {0: Row(0b0010, 0b0010, 0b000, (0, 0, 0, 0))}, 2, 0),
+        block(_BOTH, 0, {0: Row(0b0011, 0b0010, 0b010, (1, 0, 0, 0))}, 2, 0),
+        block(_BOTH, 0, {0: Row(0b1011, 0b0010, 0b010, (1, 0, 0, 0))}, 2, 1),
+        block(_BOTH, 0, {0: Row(0b1011, 0, 0b000, (1, 2, 0, 0))}, 2, 0),
         block(_BOTH, 0, _LAST, 1, 0),
+        block(_BOTH, 0, _LAST, 0, 2),
+        block(_BOTH, 0, _LAST, 2, 0),
         held({0: 1, 1: 1}),
     )
 )

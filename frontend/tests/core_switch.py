@@ -35,20 +35,20 @@ LISTING = b"""\
 1 policy 0 0
 2 refused 6
 3 select 1 1 1
-4 fill 0
-5 hit 0
+4 fill 1
+5 hit 1
 6 select 2 2 2
-7 fill 2
-8 hit 2
+7 fill 3
+8 hit 3
 9 select 1 1 2
-10 fill 1
-11 fill 3
-12 flush 0 1
-13 hit 2
-14 hit 1
+10 fill 0
+11 fill 2
+12 flush 1 1
+13 hit 3
+14 hit 0
 15 refused 11
 16 refused 3
-17 evict 3 2 1
+17 evict 2 2 1
 domain 1 2 2 0 1 1 2 0
 domain 2 2 3 1 1 0 3 0
 """
@@ -65,8 +65,8 @@ def _set(valid: int, dirty: int, word: int, *tags: int) -> dict[int, Row]:
 
 
 _FRESH = _set(0, 0, 0, 0, 0, 0, 0)
-_STORED = _set(0b0001, 0b0001, 0b010, 1, 0, 0, 0)
-_LATER = _set(0b1110, 0b1100, 0b100, 1, 2, 1, 2)
+_STORED = _set(0b0010, 0b0010, 0b000, 0, 1, 0, 0)
+_LATER = _set(0b1101, 0b1100, 0b010, 2, 1, 2, 1)
 STREAM = b"".join(
     (
         block({}, 0, _FRESH),
@@ -75,19 +75,19 @@ STREAM = b"".join(
         block(_BOTH, 0, _FRESH, 0, 0),  # refused 6
         block(_BOTH, 0, {}, 0, _NONE, _ONE),
         block(_BOTH, 0, _STORED, 2, 1, _ONE),
-        block(_BOTH, 0, _STORED, 1, 1, _ONE),
+        block(_BOTH, 0, _STORED, 2, 1, _ONE),
         block(_BOTH, 0, {}, 0, _NONE, _TWO),
-        block(_BOTH, 0, _set(0b0101, 0b0001, 0b110, 1, 0, 1, 0), 2, 2, _TWO),
-        block(_BOTH, 0, _set(0b0101, 0b0101, 0b110, 1, 0, 1, 0), 1, 2, _TWO),
+        block(_BOTH, 0, _set(0b1010, 0b0010, 0b000, 0, 1, 0, 1), 2, 2, _TWO),
+        block(_BOTH, 0, _set(0b1010, 0b1010, 0b000, 0, 1, 0, 1), 2, 2, _TWO),
         block(_BOTH, 0, {}, 0, _NONE, _SPLIT),
-        block(_BOTH, 0, _set(0b0111, 0b0101, 0b100, 1, 2, 1, 0), 2, 1, _SPLIT),
-        block(_BOTH, 0, _set(0b1111, 0b1101, 0b000, 1, 2, 1, 2), 2, 2, _SPLIT),
-        block(_BOTH, 0, _set(0b1110, 0b1100, 0b000, 1, 2, 1, 2), 1, 1, _SPLIT),
-        block(_BOTH, 0, _LATER, 1, 2, _SPLIT),
-        block(_BOTH, 0, _LATER, 2, 1, _SPLIT),
+        block(_BOTH, 0, _set(0b1011, 0b1010, 0b010, 2, 1, 0, 1), 2, 1, _SPLIT),
+        block(_BOTH, 0, _set(0b1111, 0b1110, 0b110, 2, 1, 2, 1), 2, 2, _SPLIT),
+        block(_BOTH, 0, _set(0b1101, 0b1100, 0b110, 2, 1, 2, 1), 2, 1, _SPLIT),
+        block(_BOTH, 0, _LATER, 2, 2, _SPLIT),
+        block(_BOTH, 0, _LATER, 1, 1, _SPLIT),
         block(_BOTH, 0, _LATER, 0, _NONE, _SPLIT),  # refused 11
         block(_BOTH, 0, {}, 0, _NONE, _SPLIT),  # refused 3
-        block(_BOTH, 0, _set(0b1110, 0b1100, 0b000, 1, 2, 1, 3), 2, 2, _SPLIT),
+        block(_BOTH, 0, _set(0b1101, 0b1100, 0b110, 2, 1, 3, 1), 2, 2, _SPLIT),
         held({1: 1, 2: 2}),
     )
 )
@@ -98,19 +98,19 @@ STRUCK_LISTING = b"""\
 0 policy 0 0
 1 policy 0 0
 2 select 1 1 1
-3 fill 0
-4 hit 0
+3 fill 1
+4 hit 1
 5 select 2 2 2
 6 select 1 1 2
-7 fill 1
-8 flush 0 1
-9 hit 1
+7 fill 0
+8 flush 1 1
+9 hit 0
 10 refused 11
 11 refused 3
 domain 1 2 2 0 1 1 2 0
 domain 2 0 0 0 0 0 0 0
 """
-_FLUSHED = _set(0b0010, 0, 0b000, 1, 2, 0, 0)
+_FLUSHED = _set(0b0001, 0, 0b010, 2, 1, 0, 0)
 STRUCK_STREAM = b"".join(
     (
         block({}, 0, _FRESH),
@@ -118,16 +118,16 @@ STRUCK_STREAM = b"".join(
         block(_BOTH, 0, _FRESH, 0, 2),
         block(_BOTH, 0, {}, 0, _NONE, _ONE),
         block(_BOTH, 0, _STORED, 2, 1, _ONE),
-        block(_BOTH, 0, _STORED, 1, 1, _ONE),
+        block(_BOTH, 0, _STORED, 2, 1, _ONE),
         block(_BOTH, 0, {}, 0, _NONE, _TWO),
         block(_BOTH, 0, {}, 0, _NONE, _SPLIT),
-        block(_BOTH, 0, _set(0b0011, 0b0001, 0b000, 1, 2, 0, 0), 2, 1, _SPLIT),
-        block(_BOTH, 0, _FLUSHED, 1, 1, _SPLIT),
+        block(_BOTH, 0, _set(0b0011, 0b0010, 0b010, 2, 1, 0, 0), 2, 1, _SPLIT),
         block(_BOTH, 0, _FLUSHED, 2, 1, _SPLIT),
+        block(_BOTH, 0, _FLUSHED, 1, 1, _SPLIT),
         block(_BOTH, 0, _FLUSHED, 0, _NONE, _SPLIT),
         block(_BOTH, 0, {}, 0, _NONE, _SPLIT),
         held({1: 1}),
     )
 )
-WORD = 0  # at the end of either run
-OWN = b"0\n"  # node 1 is free for domain 1, and points left in either run
+WORDS = 0b110, 0b010  # at the end of either run
+OWN = b"2\n"  # node 1 is free for domain 1, and points right in either run; node 2 is domain 2's

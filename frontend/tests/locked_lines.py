@@ -14,18 +14,18 @@ FILE = struct.pack("<HBBI", 1, 8, 0, 16) + _CODES + struct.pack("<16Q", *_ARGUME
 LISTING = b"""\
 1 8 0 16
 0 policy 0 0
-1 fill 0
-2 fill 1
-3 fill 2
-4 fill 3
+1 fill 3
+2 fill 2
+3 fill 1
+4 fill 0
 5 policy 0 0
-6 hit 1
-7 hit 3
-8 evict 2 2 0
-9 hit 0
-10 evict 1 1 0
-11 hit 0
-12 hit 3
+6 hit 2
+7 hit 0
+8 evict 1 2 0
+9 hit 3
+10 evict 2 1 0
+11 hit 3
+12 hit 0
 13 policy 0 0
 14 pass
 15 absent
@@ -42,25 +42,26 @@ def _set(valid: int, dirty: int, word: int, *tags: int) -> dict[int, Row]:
 _OPEN = {3: (0b1111, 0b1111)}
 _LOCKED = {3: (0b1111, 0b0110)}
 _BOTH = {3: (0b1111, 0b0110), 4: (0b1111_0000, 0)}
-_FILLED = _set(0b1111, 0, 0, 0, 1, 2, 3)
-_USED = _set(0b1111, 0, 0b10, 0, 1, 2, 3)  # only way 1 was used since: node 1 points right
-_LAST = _set(0b1111, 1, 0b10, 0, 5, 4, 3)
+_FILLED = _set(0b1111, 0, 0b1_1010, 3, 2, 1, 0)
+_SHUT = _set(0b1111, 0, 0b0_0010, 3, 2, 1, 0)  # nodes 3 and 4 are free no more, and become zero
+_USED = _set(0b1111, 0, 0, 3, 2, 1, 0)  # only way 2 was used since: node 1 points left
+_LAST = _set(0b1111, 0b1000, 0, 3, 4, 5, 0)
 STREAM = b"".join(
     (
         block({}, 0, _set(0, 0, 0, 0, 0, 0, 0)),
         block(_OPEN, 0, _set(0, 0, 0, 0, 0, 0, 0), 0, 3),
-        block(_OPEN, 0, _set(0b0001, 0, 0b0_1010, 0, 0, 0, 0), 4, 3),
-        block(_OPEN, 0, _set(0b0011, 0, 0b0_0010, 0, 1, 0, 0), 4, 3),
-        block(_OPEN, 0, _set(0b0111, 0, 0b1_0000, 0, 1, 2, 0), 4, 3),
+        block(_OPEN, 0, _set(0b1000, 0, 0b0_0000, 0, 0, 0, 0), 4, 3),
+        block(_OPEN, 0, _set(0b1100, 0, 0b1_0000, 0, 0, 1, 0), 4, 3),
+        block(_OPEN, 0, _set(0b1110, 0, 0b1_0010, 0, 2, 1, 0), 4, 3),
         block(_OPEN, 0, _FILLED, 4, 3),
-        block(_LOCKED, 0, _FILLED, 0, 3),
-        block(_LOCKED, 0, _USED, 2, 3),
-        block(_LOCKED, 0, _USED, 4, 3),  # a hit in the locked way 3
-        block(_LOCKED, 0, _set(0b1111, 0, 0, 0, 1, 4, 3), 4, 3),
-        block(_LOCKED, 0, _set(0b1111, 1, 0, 0, 1, 4, 3), 1, 3),  # a store in the locked way 0
+        block(_LOCKED, 0, _SHUT, 0, 3),
+        block(_LOCKED, 0, _USED, 3, 3),
+        block(_LOCKED, 0, _USED, 1, 3),  # a hit in the locked way 0
+        block(_LOCKED, 0, _set(0b1111, 0, 0b10, 3, 4, 1, 0), 4, 3),
+        block(_LOCKED, 0, _set(0b1111, 0b1000, 0b10, 3, 4, 1, 0), 4, 3),  # a store in the locked way 3
+        block(_LOCKED, 0, _LAST, 4, 3),
         block(_LOCKED, 0, _LAST, 4, 3),
         block(_LOCKED, 0, _LAST, 1, 3),
-        block(_LOCKED, 0, _LAST, 4, 3),
         block(_BOTH, 0, _LAST, 0, 4),
         block(_BOTH, 0, _LAST, 4, 4),
         block(_BOTH, 0, _LAST, 4, 4),

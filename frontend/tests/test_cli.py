@@ -63,6 +63,12 @@ class Help(InFolder):
         number = "the ways of the domain's hit map, lowest first, up to and including the one hit, or all of them without a hit."
         self.assertIn(f"how many ways the hit lookup visited: {number} An invalid way of the map is counted.", said)
 
+    def test_explain_says_which_way_is_taken(self):
+        said = " ".join(call("explain", "--help")[1].decode().split())
+        self.assertIn("A miss fills the highest way of the domain's fill map that holds no valid line. If all of them", said)
+        nru = "it is the highest way of the fill map whose bit was one or, where none was, the highest of the fill map,"
+        self.assertIn(f"under NRU it is said how it was found: {nru} whose bits all become one.", said)
+
     def test_explain_says_which_lines_are_locked(self):
         said = " ".join(call("explain", "--help")[1].decode().split())
         where = "in a way of the domain's hit map that is not in its fill map"

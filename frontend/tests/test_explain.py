@@ -12,7 +12,7 @@ from frontend.paint import Paint
 from frontend.programs import ROOT
 from frontend.run import Run
 from frontend.stepper import Row
-from frontend.tests import balance, case_a, core_switch, locked_lines, true_lru
+from frontend.tests import balance, case_a, core_switch, highest_first, locked_lines, true_lru
 from frontend.tests.helpers import block, by_rote, call, held
 from frontend.tracefile import Step, Trace
 
@@ -64,20 +64,20 @@ Lines in and lines out
     def test_evict(self):
         expected = """\
  domain 0 loads at 0x80
-  evict 0 0 1
-  A miss: the line with tag 0 was evicted from way 0 (dirty, so it is written back), and the way was
+  evict 1 0 1
+  A miss: the line with tag 0 was evicted from way 1 (dirty, so it is written back), and the way was
   filled.
   The lookup visited 2 ways.
-     set 0  before                 after                     hit map   fill map
-  *  way 0  tag 0, dirty           tag 2                     domain 0  domain 0
-     way 1  tag 1                  tag 1                     domain 0  domain 0
-     way 2  tag 0                  tag 0                     domain 1  domain 1
-     way 3  empty                  empty                     domain 1  domain 1
-  *  word   0x4 (right at node 2)  0x6 (right at nodes 1,2)"""
+     set 0  before                 after  hit map   fill map
+     way 0  tag 1                  tag 1  domain 0  domain 0
+  *  way 1  tag 0, dirty           tag 2  domain 0  domain 0
+     way 2  empty                  empty  domain 1  domain 1
+     way 3  tag 0                  tag 0  domain 1  domain 1
+  *  word   0x2 (right at node 1)  0x0"""
         self.assertEqual(self.step(5), expected)
 
     def test_flush_keeps_the_tag(self):
-        self.assertRegex(self.step(6), r"\n  \*  way 1  tag 1 +tag 1, invalid ")
+        self.assertRegex(self.step(6), r"\n  \*  way 0  tag 1 +tag 1, invalid ")
 
     def test_refused(self):
         step = self.step(7)
@@ -85,13 +85,13 @@ Lines in and lines out
         self.assertNotIn("way 0", step)
 
     def test_hit_changes_nothing(self):
-        self.assertIn("hit 0\n  A hit in way 0.\n  The lookup visited 1 way.\n", self.step(8))
+        self.assertIn("hit 1\n  A hit in way 1.\n  The lookup visited 2 ways.\n", self.step(8))
         self.assertNotIn("*", self.step(8))
 
     def test_ways_visited(self):
         said = {place: re.findall(r"\n  The lookup visited (.*)\.\n", self.step(place)) for place in range(9)}
         two = ["2 ways"]
-        self.assertEqual(said, {0: [], 1: [], 2: two, 3: two, 4: two, 5: two, 6: two, 7: [], 8: ["1 way"]})
+        self.assertEqual(said, {0: [], 1: [], 2: two, 3: two, 4: two, 5: two, 6: ["1 way"], 7: [], 8: two})
 
 
 class TrueLru(unittest.TestCase):
@@ -111,11 +111,11 @@ class TrueLru(unittest.TestCase):
   A miss: the line with tag 1 was evicted from way 1 (not dirty), and the way was filled.
   The lookup visited 3 ways.
      set 0  before                         after                          hit map   fill map
-     way 0  tag 0                          tag 0                          domain 0  domain 0
+     way 0  tag 2                          tag 2                          domain 0  domain 0
   *  way 1  tag 1                          tag 3                          domain 0  domain 0
-     way 2  tag 2                          tag 2                          domain 0  domain 0
+     way 2  tag 0                          tag 0                          domain 0  domain 0
      way 3  tag 0, dirty                   tag 0, dirty                   domain 1  domain 1
-  *  word   0x1203 (oldest first 1 2 0 3)  0x2031 (oldest first 2 0 3 1)"""
+  *  word   0x1023 (oldest first 1 0 2 3)  0x0231 (oldest first 0 2 3 1)"""
         self.assertEqual(self.step(7), expected)
 
     def test_a_place_is_a_digit(self):
@@ -126,7 +126,7 @@ class TrueLru(unittest.TestCase):
         steps = [line for line in text.splitlines() if line[:1].isdigit()]
         blocks = stepper.parse(true_lru.STREAM, tracefile.decode(true_lru.FILE)).blocks
         said = {place: line.partition("oldest first ")[2][:7] for place, line in enumerate(steps) if "oldest first" in line}
-        self.assertEqual(list(said), [0, 1, 5, 6, 8, 9, 12])
+        self.assertEqual(list(said), [0, 1, 4, 5, 6, 8, 9, 12])
         for place, order in said.items():
             word = stepper.rows_at_end(blocks[: place + 2])[0].word
             self.assertEqual(f"{word:04x}", order.replace(" ", ""), place)
@@ -149,16 +149,16 @@ class LockedLines(unittest.TestCase):
         return story.partition(f"\nstep {place} ")[2].partition("\n\n")[0]
 
     def test_word(self):
-        turned = "\n  *  word   0x0     0x2 (right at node 1)"
-        stayed = "\n     word   0x2 (right at node 1)  0x2 (right at node 1)"
+        turned = "\n  *  word   0x2 (right at node 1)  0x0"
+        stayed = "\n     word   0x0     0x0"
         self.assertTrue(self.step(6).endswith(turned), self.step(6))
         locked = "Its line is locked: the way is not in the domain's fill map."
-        self.assertIn(f"\n  hit 3\n  A hit in way 3. {locked}\n  The lookup visited 4 ways.\n", self.step(7))
+        self.assertIn(f"\n  hit 0\n  A hit in way 0. {locked}\n  The lookup visited 1 way.\n", self.step(7))
         self.assertTrue(self.step(7).endswith(stayed), self.step(7))
         self.assertNotIn("*", self.step(7))
 
     def test_which_lines_are_told_as_locked(self):
-        self.assertIn("\n  hit 1\n  A hit in way 1.\n  The lookup visited 2 ways.\n", self.step(6))
+        self.assertIn("\n  hit 2\n  A hit in way 2.\n  The lookup visited 3 ways.\n", self.step(6))
         for example, places in ((locked_lines, [7, 9, 11, 12]), (true_lru, [10]), (case_a, [])):
             steps = told_of_each_step(tracefile.decode(example.FILE), example.LISTING, example.STREAM)
             self.assertEqual([place for place, step in enumerate(steps) if "lock" in step], places, example.__name__)
@@ -170,10 +170,64 @@ class LockedLines(unittest.TestCase):
     def test_nodes_are_those_that_the_text_says(self):
         steps = [line for line in self.TEXT.splitlines() if line[:1].isdigit()][6:10]
         said = [re.findall("node 1 points [a-z]+|turns no node", line) for line in steps]
-        self.assertEqual(said, [["node 1 points right"], ["turns no node"], ["node 1 points left"], ["turns no node"]])
+        self.assertEqual(said, [["node 1 points left"], ["turns no node"], ["node 1 points right"], ["turns no node"]])
         blocks = stepper.parse(locked_lines.STREAM, tracefile.decode(locked_lines.FILE)).blocks
         words = [stepper.rows_at_end(blocks[: place + 2])[0].word for place in range(6, 10)]
-        self.assertEqual(words, [0b10, 0b10, 0, 0])
+        self.assertEqual(words, [0, 0, 0b10, 0b10])
+
+
+class HighestFirst(unittest.TestCase):
+    """The example of the way that a miss takes under NRU, and what is told of it."""
+
+    TEXT = (ROOT / "examples" / "highest-first.txt").read_text(encoding="ascii")
+    FILL = "the highest of the domain's fill map that held no valid line, was filled."
+    VICTIM = "It is the highest way of the fill map whose bit was one."
+    DEFAULT = "No bit of the fill map was one: all became one, and its highest way is the victim, whose bit then became zero."
+
+    def steps(self) -> list[str]:
+        """Tell each step, its lines joined."""
+        return told_of_each_step(tracefile.decode(highest_first.FILE), highest_first.LISTING, highest_first.STREAM)
+
+    def test_an_invalid_way(self):
+        steps = self.steps()
+        for place, way in ((2, 2), (3, 1), (4, 0), (11, 1), (12, 0)):
+            self.assertIn(f" fill {way} A miss: way {way}, {self.FILL} The lookup", steps[place])
+        self.assertEqual([place for place, step in enumerate(steps) if self.FILL in step], [2, 3, 4, 11, 12])
+
+    def test_a_victim(self):
+        steps = self.steps()
+        for place, way, why in ((5, 2, self.DEFAULT), (6, 1, self.VICTIM), (8, 2, self.DEFAULT)):
+            self.assertIn(f" from way {way} (not dirty), and the way was filled. {why} The lookup", steps[place])
+        said = [place for place, step in enumerate(steps) if self.VICTIM in step or self.DEFAULT in step]
+        self.assertEqual(said, [5, 6, 8])
+
+    def test_words_before_and_after_a_default(self):
+        self.assertTrue(self.steps()[5].endswith(" * word 0x8 (one at way 3) 0xb (one at ways 0,1,3)"))
+
+    def test_other_rules_say_nothing_of_it(self):
+        for example in (case_a, locked_lines, true_lru):
+            story = " ".join(told(tracefile.decode(example.FILE), example.LISTING, example.STREAM).split())
+            self.assertIn(" evict ", story)
+            self.assertNotIn("bit", story)
+
+    def test_the_maps_are_those_of_the_domain_before_the_step(self):
+        for then, why in (({1: (15, 2)}, self.VICTIM), ({1: (15, 13)}, self.DEFAULT), ({0: (15, 2)}, self.DEFAULT)):
+            stream = block(then, 0, {0: Row(15, 0, 0b0010, (0,) * 4)}) + block({1: (15, 15)}, visited=4, domain=1)
+            story = told_of_each_step(Trace(1, 4, 1, (Step(1, 1, 64),)), b"1 4 1 1\n0 evict 1 0 0\n", stream + held({}))
+            self.assertIn(f" filled. {why} The lookup", story[0])
+
+    def test_answers_that_no_lister_gives(self):
+        fresh = block({}, 0, {0: Row(0, 0, 0b1111, (0,) * 4)})
+        for step, domain in ((Step(16, 1, 0), 16), (Step(255, 1, 0), 255), (Step(0, 40, 0), 65535)):
+            stream = fresh + block({}, domain=domain) + held({})
+            (said,) = told_of_each_step(Trace(1, 4, 1, (step,)), b"1 4 1 1\n0 evict 9 0 0\n", stream)
+            self.assertIn(f" evicted from way 9 (not dirty), and the way was filled. {self.DEFAULT}", said)
+
+    def test_ways_are_those_that_the_text_says(self):
+        said = re.findall("# (fills|hits|evicts|flushes) way ([0-9])", self.TEXT)
+        words = {"fill": "fills", "hit": "hits", "evict": "evicts", "flush": "flushes"}
+        found = re.findall("(fill|hit|evict|flush) ([0-9])", highest_first.LISTING.decode())
+        self.assertEqual(said, [(words[word], way) for word, way in found])
 
 
 class Locked(unittest.TestCase):
@@ -249,16 +303,20 @@ class CoreSwitch(unittest.TestCase):
         expected = """\
  core 3 loads at 0x40
   Core 3 loads through DS, which names domain 2.
-  fill 2
-  A miss: way 2, which held no valid line, was filled.
+  fill 3
+  A miss: way 3, the highest of the domain's fill map that held no valid line, was filled.
   The lookup visited 2 ways.
-     set 0  before                 after                     hit map   fill map
-     way 0  tag 1, dirty           tag 1, dirty              domain 1  domain 1
-     way 1  empty                  empty                     domain 1  domain 1
-  *  way 2  empty                  tag 1                     domain 2  domain 2
-     way 3  empty                  empty                     domain 2  domain 2
-  *  word   0x2 (right at node 1)  0x6 (right at nodes 1,2)"""
+     set 0  before        after         hit map   fill map
+     way 0  empty         empty         domain 1  domain 1
+     way 1  tag 1, dirty  tag 1, dirty  domain 1  domain 1
+     way 2  empty         empty         domain 2  domain 2
+  *  way 3  empty         tag 1         domain 2  domain 2
+     word   0x0           0x0"""
         self.assertEqual(self.step(7), expected)
+
+    def test_word(self):
+        turned = "\n  *  word   0x2 (right at node 1)  0x6 (right at nodes 1,2)"
+        self.assertTrue(self.step(11).endswith(turned), self.step(11))
 
     def test_writes_of_selectors(self):
         first = "Accepted; changed CS from 0 to 1, DS from 0 to 1, ES from 0 to 1."
@@ -280,7 +338,7 @@ class CoreSwitch(unittest.TestCase):
         self.assertTrue(said.startswith(f"core 3 asks for CS 1, DS 16, ES 1 refused 3 {wrong} Name a domain"), said)
 
     def test_a_step_without_a_core(self):
-        self.assertIn("\nstep 13  domain 2 loads at 0x40\n  hit 2\n  A hit in way 2.\n", self.story())
+        self.assertIn("\nstep 13  domain 2 loads at 0x40\n  hit 3\n  A hit in way 3.\n", self.story())
 
     def test_selectors_and_domains_are_those_that_the_text_says(self):
         said = re.findall(r"^core .*# ([CDE]S).*?\bdomain ([0-9])", self.TEXT, re.MULTILINE)
@@ -447,7 +505,7 @@ class Colour(unittest.TestCase):
 
     def test_painted(self):
         self.assertIn("\x1b[31mrefused 6\x1b[0m", told_case_a(colour=True))
-        self.assertIn("\x1b[32mhit 0\x1b[0m", told_case_a(colour=True))
+        self.assertIn("\x1b[32mhit 1\x1b[0m", told_case_a(colour=True))
 
     def test_choice(self):
         terminal, pipe = mock.Mock(), mock.Mock()

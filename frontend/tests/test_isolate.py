@@ -441,12 +441,12 @@ class CoreSwitch(unittest.TestCase):
         stream: bytes = core_switch.STRUCK_STREAM,
     ) -> tuple[int, str, str]:
         struck_file = tracefile.encode(replace(self.WHOLE, steps=self.KEPT))
-        asked = tracefile.encode(Trace(1, 4, 0, (Step(3, 0, core_switch.WORD),)))
+        asked = tuple(tracefile.encode(Trace(1, 4, 0, (Step(3, 0, word),))) for word in core_switch.WORDS)
         said = {
             "lister": {core_switch.FILE: core_switch.LISTING, struck_file: listed}.__getitem__,
             "stepper": {core_switch.FILE: core_switch.STREAM, struck_file: stream}.__getitem__,
             "purger": lambda data, domain: {(core_switch.FILE, 1): lines_of(kept)}[data, domain],
-            "parts": {asked: core_switch.OWN}.__getitem__,
+            "parts": dict.fromkeys(asked, core_switch.OWN).__getitem__,
         }
         with by_rote(**said):
             status, out, err = call("isolate", "-", "1", stdin=core_switch.FILE)
@@ -475,12 +475,12 @@ class CoreSwitch(unittest.TestCase):
                 (14, 9, "core 3 fetches at 0x80"),
             ],
         )
-        self.assertEqual(rows[3][3:], ["fill 1, 2 ways visited"] * 2)
+        self.assertEqual(rows[3][3:], ["fill 0, 2 ways visited"] * 2)
 
     def test_a_difference_in_a_step_by_a_core(self):
-        status, out, _ = self.isolate(listed=core_switch.STRUCK_LISTING.replace(b"\n9 hit 1", b"\n9 fill 0"))
+        status, out, _ = self.isolate(listed=core_switch.STRUCK_LISTING.replace(b"\n9 hit 0", b"\n9 fill 1"))
         self.assertEqual(status, 1)
-        seen = "'hit 1, 2 ways visited' in the whole run, 'fill 0, 2 ways visited' in the struck-out run."
+        seen = "'hit 0, 1 way visited' in the whole run, 'fill 1, 1 way visited' in the struck-out run."
         self.assertIn(f"First difference: step 14 (9 in the struck-out run), core 3 fetches at 0x80: {seen}\n", out)
 
     def test_other_answers_to_steps_of_no_domain(self):

@@ -18,15 +18,15 @@ class Listings(unittest.TestCase):
     def test_case_a(self):
         listed = listing.parse(case_a.LISTING)
         self.assertIsNone(listed.refused)
-        self.assertEqual(listed.answers[5], Answer("evict", (0, 0, 1)))
-        self.assertEqual(" | ".join(map(str, listed.answers[6:])), "flush 1 0 | refused 6 | hit 0")
+        self.assertEqual(listed.answers[5], Answer("evict", (1, 0, 1)))
+        self.assertEqual(" | ".join(map(str, listed.answers[6:])), "flush 0 0 | refused 6 | hit 1")
         self.assertEqual(listed.counts, {0: (1, 3, 1, 1, 1, 3, 0), 1: (0, 1, 0, 0, 0, 1, 0)})
 
     def test_core_switch(self):
         listed = listing.parse(core_switch.LISTING)
         listing.check(listed, core_switch.FILE)
         self.assertEqual(listed.answers[9], Answer("select", (1, 1, 2)))
-        self.assertEqual(" | ".join(map(str, listed.answers[14:])), "hit 1 | refused 11 | refused 3 | evict 3 2 1")
+        self.assertEqual(" | ".join(map(str, listed.answers[14:])), "hit 0 | refused 11 | refused 3 | evict 2 2 1")
         self.assertEqual(listed.counts, {1: (2, 2, 0, 1, 1, 2, 0), 2: (2, 3, 1, 1, 0, 3, 0)})
 
     def test_the_order_of_counts(self):
@@ -90,7 +90,7 @@ class Listings(unittest.TestCase):
             (b"", "it is empty"),
             (case_a.LISTING[:-1], "it breaks off within line 12, 'domain 1 0 1 0 0 0 1 0'"),
             (case_a.LISTING[:34], "it says 9 steps, and ends after the lines of 2"),
-            (case_a.LISTING.replace(b"4 fill", b"4 fil"), "line 6 is '4 fil 2', and should be the answer to step 4"),
+            (case_a.LISTING.replace(b"4 fill", b"4 fil"), "line 6 is '4 fil 3', and should be the answer to step 4"),
             (case_a.LISTING.replace(b"1 4 0 9", b"2 4 0 9"), "its first line is '2 4 0 9', and the file's numbers are '1 4 0 9'"),
             (case_a.LISTING[:-23], "its domain lines are those of 0, and by its own answers 0, 1 have ways at the end"),
             (case_a.LISTING + b"x\n", "line 13 is 'x', and should be a domain and its seven counts, or the end"),
@@ -135,11 +135,11 @@ class Streams(unittest.TestCase):
         self.assertEqual((len(blocks), stream.held), (10, (1, 1, *[0] * 14)))
         self.assertEqual(blocks[1].hit[:3], (3, 0, 0))
         self.assertEqual(blocks[2].fill[:3], (3, 12, 0))
-        self.assertEqual([block.visited for block in blocks], [0, 0, 0, 2, 2, 2, 2, 2, 0, 1])
+        self.assertEqual([block.visited for block in blocks], [0, 0, 0, 2, 2, 2, 2, 1, 0, 2])
         self.assertEqual([block.domain for block in blocks], [None, 0, 1, 0, 0, 1, 0, 0, 2, 0])
         self.assertEqual({block.records for block in blocks}, {((0, 0, 0),) * 32})
-        self.assertEqual(blocks[6].rows, {0: Row(7, 0, 6, (2, 1, 0, 0))})
-        self.assertEqual(stepper.rows_at_end(blocks), {0: Row(5, 0, 6, (2, 1, 0, 0))})
+        self.assertEqual(blocks[6].rows, {0: Row(11, 0, 0, (1, 2, 0, 0))})
+        self.assertEqual(stepper.rows_at_end(blocks), {0: Row(10, 0, 0, (1, 2, 0, 0))})
 
     def test_core_switch(self):
         blocks = stepper.parse(core_switch.STREAM, tracefile.decode(core_switch.FILE)).blocks
@@ -149,7 +149,7 @@ class Streams(unittest.TestCase):
         due = [*[none] * 4, *[first] * 3, *[second] * 3, *[split] * 9]
         self.assertEqual([block.records[3] for block in blocks], due)
         self.assertEqual({block.records[core] for block in blocks for core in range(32) if core != 3}, {none})
-        visited = [0, 0, 0, 0, 0, 2, 1, 0, 2, 1, 0, 2, 2, 1, 1, 2, 0, 0, 2]
+        visited = [0, 0, 0, 0, 0, 2, 2, 0, 2, 2, 0, 2, 2, 2, 2, 1, 0, 0, 2]
         self.assertEqual([block.visited for block in blocks], visited)
 
     def test_the_order_of_records(self):
@@ -296,7 +296,7 @@ class Words(unittest.TestCase):
     def test_answers(self):
         for answer, part in (
             (Answer("hit", (3,)), "A hit in way 3."),
-            (Answer("fill", (2,)), "way 2, which held no valid line, was filled"),
+            (Answer("fill", (2,)), "way 2, the highest of the domain's fill map that held no valid line, was filled"),
             (Answer("evict", (0, 9, 1)), "tag 9 was evicted from way 0 (dirty, so it is written back)"),
             (Answer("evict", (0, 9, 0)), "(not dirty)"),
             (Answer("pass", ()), "fill map is empty"),
@@ -306,6 +306,11 @@ class Words(unittest.TestCase):
             (Answer("policy", (2, 1)), "dropped 2 valid lines, 1 dirty"),
         ):
             self.assertIn(part, words.answer(answer))
+
+    def test_victims_of_nru(self):
+        some, none = "It is the highest way of the fill map whose bit was one.", "No bit of the fill map was one: all became one"
+        for word, fill, said in ((0b0100, 0b0110, some), (0b0110, 0b0110, some), (0, 0b0110, none), (0b1001, 0b0110, none)):
+            self.assertTrue(words.nru_victim(word, fill).startswith(said), (word, fill))
 
     def test_policy_changes(self):
         remove, change = Step(3, 16, 0), Step(3, 16, 0x1_0003)

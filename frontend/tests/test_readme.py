@@ -8,7 +8,7 @@ from frontend import __main__ as entry
 from frontend import listing, stepper, text, tracefile, words
 from frontend.assembler import assemble
 from frontend.programs import ROOT
-from frontend.tests import case_a, core_switch
+from frontend.tests import case_a, core_switch, locked_lines
 
 README = (ROOT / "README.md").read_text(encoding="utf-8")
 LINK = re.compile(r"\]\(([^)#]+)")
@@ -31,6 +31,22 @@ class Readme(unittest.TestCase):
     def test_the_worked_example(self):
         self.assertIn("".join(f"    {line}\n" for line in case_a.LISTING.decode().splitlines()), README)
 
+    def test_what_is_said_of_its_steps(self):
+        second, fourth, fifth = (listing.parse(case_a.LISTING).answers[place].fields for place in (2, 4, 5))
+        said = " ".join(README.split())
+        self.assertIn(f"In step 2 domain 0 fills way {second[0]}, the higher of its two. In step 4 ", said)
+        holds = f"which domain 0 holds in way {second[0]}: it does not hit there, and fills its own way {fourth[0]}."
+        self.assertIn(f" In step 4 domain 1 loads address 0, {holds} In step 5 domain 0 is full, ", said)
+        self.assertEqual(fifth[2], 1)
+        self.assertIn(f" and the victim is way {fifth[0]}, tag {fifth[1]}, dirty. ", said)
+
+    def test_what_others_quote_too(self):
+        header = (ROOT / "include" / "dipperlock.h").read_text(encoding="utf-8")
+        (prints,) = re.findall(r' \* +prints "(fill [0-9])"\.\n', header)
+        self.assertIn(f"\nprints `{prints}`. [examples/c/case_a.c]", README)
+        found = README.partition("BUG=BUG_HIT_ALL_WAYS` prints\n\n")[2].partition("\n\n")[0]
+        self.assertIn(f"\n\n{found}\n\n", (ROOT / "examples" / "verilator" / "README.md").read_text(encoding="utf-8"))
+
     def test_every_word_of_a_listing_is_named(self):
         for word, count in listing._FIELDS.items():
             (numbers,) = re.findall(rf"\n\| `{word}` \| ([^|]*?) ?\|", README)
@@ -51,6 +67,27 @@ class Readme(unittest.TestCase):
     def test_how_the_other_parts_are_tested(self):
         self.assertIn("cargo test --manifest-path reference/Cargo.toml", README)
         self.assertTrue((ROOT / "reference" / "Cargo.toml").is_file())
+
+
+class Locking(unittest.TestCase):
+    """The section on locked lines, which quotes an example."""
+
+    SECTION = README.partition("\n## Locking a working set\n")[2].partition("\n## ")[0]
+    LINES = [line[4:] for line in SECTION.splitlines() if line.startswith("    ")]
+
+    def test_the_lines_are_those_of_the_example(self):
+        quoted = "\n".join(line for line in self.LINES if "#" in line) + "\n"
+        self.assertTrue(quoted.startswith("3 policy hit=0-3 fill=1,2 "))
+        self.assertIn(f"\n{quoted}", (ROOT / "examples" / "locked-lines.txt").read_text(encoding="ascii"))
+
+    def test_the_listing_is_that_of_the_example(self):
+        quoted = "\n".join(line for line in self.LINES if "#" not in line) + "\n"
+        self.assertTrue(quoted.startswith("5 policy 0 0\n"))
+        self.assertIn(f"\n{quoted}", locked_lines.LISTING.decode())
+
+    def test_what_explain_says(self):
+        answer = listing.parse(locked_lines.LISTING).answers[7]
+        self.assertIn(f"of step 7: `{words.answer(answer, 0b1001)}`", self.SECTION)
 
 
 class CoresAndSelectors(unittest.TestCase):

@@ -7,7 +7,7 @@ import unittest
 from frontend import cores, maps, numbers, text, tracefile
 from frontend.assembler import assemble
 from frontend.programs import ROOT
-from frontend.tests import balance, case_a, core_switch, locked_lines, true_lru
+from frontend.tests import balance, case_a, core_switch, highest_first, locked_lines, true_lru
 from frontend.tests.helpers import random_file, random_trace
 from frontend.tracefile import Step, Trace
 
@@ -88,6 +88,10 @@ class Forms(unittest.TestCase):
     def test_balance(self):
         source = (ROOT / "examples" / "balance.txt").read_bytes()
         self.assertEqual(tracefile.encode(assemble("balance.txt", source)), balance.FILE)
+
+    def test_highest_first(self):
+        source = (ROOT / "examples" / "highest-first.txt").read_bytes()
+        self.assertEqual(tracefile.encode(assemble("highest-first.txt", source)), highest_first.FILE)
 
     def test_canonical_text(self):
         shown = text.show(tracefile.decode(case_a.FILE))

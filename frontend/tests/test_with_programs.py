@@ -14,7 +14,7 @@ from pathlib import Path
 from frontend import cores, crates, helptext, listing, maps, programs, run, stepper, struck, tracefile, words
 from frontend.explain import Explainer
 from frontend.paint import Paint
-from frontend.tests import balance, case_a, core_switch, locked_lines, true_lru
+from frontend.tests import balance, case_a, core_switch, highest_first, locked_lines, true_lru
 from frontend.tests.helpers import call, knows_cores, needs_programs, random_trace, start
 from frontend.tracefile import Step, Trace
 
@@ -176,6 +176,39 @@ class LockedLines(unittest.TestCase):
 
 
 @needs_programs
+class HighestFirst(unittest.TestCase):
+    """The way that a miss takes: in the example, and in any trace."""
+
+    EXAMPLE = str(programs.ROOT / "examples" / "highest-first.txt")
+
+    def test_example(self):
+        self.assertEqual(call("list", self.EXAMPLE), (0, highest_first.LISTING, ""))
+        self.assertEqual(programs.stepper(highest_first.FILE), highest_first.STREAM)
+
+    def candidates(self, rule: int, answer: listing.Answer, fill: int, row: stepper.Row) -> tuple[str, list[int]]:
+        """Give what the ways have in common that would do for an answer, and these; none where the highest need not be taken."""
+        if answer.word == "fill":
+            return "invalid", maps.members(fill & ~row.valid)
+        if answer.word != "evict" or rule != tracefile.NRU:
+            return "", []
+        return ("bit one", maps.members(fill & row.word)) if fill & row.word else ("default", maps.members(fill))
+
+    def test_the_way_is_the_highest_that_would_do(self):
+        source, seen = random.Random(21), []
+        for _ in range(24):
+            taken = run.take("random", tracefile.encode(busy_trace(source, 300, tops=(63,))))
+            rule, rows = taken.trace.rule, {}
+            for before, after, answer in zip(taken.blocks, taken.blocks[1:], taken.listing.answers):
+                rows.update(before.rows)
+                if answer.word in ("fill", "evict"):
+                    sort, ways = self.candidates(rule, answer, before.fill[after.domain], rows[after.set])
+                    self.assertIn(answer.fields[0], ways[-1:] or range(taken.trace.ways), (rule, answer, ways))
+                    seen += [(rule, sort)] if len(ways) > 1 else []
+        for due in ((0, "invalid"), (1, "invalid"), (2, "invalid"), (1, "bit one"), (1, "default")):
+            self.assertGreater(seen.count(due), 10, due)
+
+
+@needs_programs
 class Balance(unittest.TestCase):
     """Lines in and lines out: in the example, and in any trace."""
 
@@ -274,7 +307,7 @@ class CoreSwitch(unittest.TestCase):
     def test_explain(self):
         status, out, _ = call("explain", self.EXAMPLE)
         self.assertEqual(status, 0)
-        self.assertIn("\n  Core 3 loads through DS, which names domain 2.\n  fill 2\n", out.decode())
+        self.assertIn("\n  Core 3 loads through DS, which names domain 2.\n  fill 3\n", out.decode())
         self.assertIn("\n  select 1 1 2\n  Accepted; changed CS from 2 to 1, DS from 2 to 1.\n", out.decode())
 
 
@@ -306,7 +339,7 @@ class Cores(unittest.TestCase):
     def test_accesses_and_flushes(self):
         select = Step(31, 40, 0x010101)
         answers = self.answers(select, *(Step(31, kind, 64) for kind in (32, 33, 34, 35, 35)))
-        self.assertEqual(answers[1:], ["fill 0", "hit 0", "hit 0", "flush 0 1", "absent"])
+        self.assertEqual(answers[1:], ["fill 3", "hit 3", "hit 3", "flush 3 1", "absent"])
         for kind in (32, 33, 34, 35):
             self.assertEqual(self.answers(Step(31, kind, 64)), ["refused 6"])  # domain 0 has no ways
             self.assertEqual(self.answers(Step(16, kind, 64)), ["refused 6"])  # and core 16 is no domain
@@ -316,7 +349,7 @@ class Cores(unittest.TestCase):
         for kind, argument in ((32, 0x000001), (33, 0x000100), (34, 0x010000), (35, 0x000100)):
             for selectors in (0x000001, 0x000100, 0x010000):
                 answer = self.answers(Step(3, 40, selectors), Step(3, kind, 64))[1]
-                due = {35: "absent"}.get(kind, "fill 0") if selectors == argument else "refused 6"
+                due = {35: "absent"}.get(kind, "fill 3") if selectors == argument else "refused 6"
                 self.assertEqual(answer, due, (kind, hex(selectors)))
 
     def test_kinds_beside_them_are_unknown(self):
@@ -465,7 +498,7 @@ class Examples(unittest.TestCase):
         status, out, _ = call("explain", str(path))
         visited = re.findall(r"\n  The lookup visited ([0-9]+ ways?)\.\n", out.decode())
         self.assertEqual((status, visited), (0, re.findall("# ([0-9]+ ways?)", path.read_text(encoding="ascii"))))
-        self.assertEqual([int(said.split()[0]) for said in visited], [4, 4, 4, 1, 3, 2, 3, 4, 2, 2, 2])
+        self.assertEqual([int(said.split()[0]) for said in visited], [4, 4, 4, 4, 1, 3, 2, 3, 4, 2, 2, 2])
 
     def test_isolate_and_explain(self):
         for path in EXAMPLES:

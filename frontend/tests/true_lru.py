@@ -14,10 +14,10 @@ LISTING = b"""\
 1 4 2 13
 0 policy 0 0
 1 policy 0 0
-2 fill 0
+2 fill 2
 3 fill 1
-4 fill 2
-5 hit 0
+4 fill 0
+5 hit 2
 6 fill 3
 7 evict 1 1 0
 8 hit 3
@@ -37,22 +37,22 @@ _MADE = (  # up to step 5, which both runs have
     block({}, 0, _FRESH),
     block(_FIRST, 0, _FRESH, 0, 0),
     block(_BOTH, 0, {0: Row(0, 0, 0x3012, (0, 0, 0, 0))}, 0, 1),
-    block(_BOTH, 0, {0: Row(0b0001, 0, 0x3120, (0, 0, 0, 0))}, 3, 0),
-    block(_BOTH, 0, {0: Row(0b0011, 0, 0x3201, (0, 1, 0, 0))}, 3, 0),
-    block(_BOTH, 0, {0: Row(0b0111, 0, 0x3012, (0, 1, 2, 0))}, 3, 0),
-    block(_BOTH, 0, {0: Row(0b0111, 0, 0x3120, (0, 1, 2, 0))}, 1, 0),
+    block(_BOTH, 0, {0: Row(0b0100, 0, 0x3012, (0, 0, 0, 0))}, 3, 0),
+    block(_BOTH, 0, {0: Row(0b0110, 0, 0x3021, (0, 1, 0, 0))}, 3, 0),
+    block(_BOTH, 0, {0: Row(0b0111, 0, 0x3210, (2, 1, 0, 0))}, 3, 0),
+    block(_BOTH, 0, {0: Row(0b0111, 0, 0x3102, (2, 1, 0, 0))}, 3, 0),
 )
-_MOVED = {0: Row(0b1111, 0b1000, 0x1203, (0, 3, 2, 0))}
+_MOVED = {0: Row(0b1111, 0b1000, 0x1203, (2, 3, 0, 0))}
 STREAM = b"".join(
     (
         *_MADE,
-        block(_BOTH, 0, {0: Row(0b1111, 0b1000, 0x1203, (0, 1, 2, 0))}, 1, 1),
-        block(_BOTH, 0, {0: Row(0b1111, 0b1000, 0x2031, (0, 3, 2, 0))}, 3, 0),
-        block(_BOTH, 0, {0: Row(0b1111, 0b1000, 0x2013, (0, 3, 2, 0))}, 1, 1),
+        block(_BOTH, 0, {0: Row(0b1111, 0b1000, 0x1023, (2, 1, 0, 0))}, 1, 1),
+        block(_BOTH, 0, {0: Row(0b1111, 0b1000, 0x0231, (2, 3, 0, 0))}, 3, 0),
+        block(_BOTH, 0, {0: Row(0b1111, 0b1000, 0x0213, (2, 3, 0, 0))}, 1, 1),
         block(_LOCKED, 0, _MOVED, 0, 0),
         block(_LOCKED, 0, _MOVED, 2, 0),
         block(_BOTH, 0, _MOVED, 0, 0),
-        block(_BOTH, 0, {0: Row(0b1111, 0b1000, 0x2031, (0, 4, 2, 0))}, 3, 0),
+        block(_BOTH, 0, {0: Row(0b1111, 0b1000, 0x2031, (2, 4, 0, 0))}, 3, 0),
         held({0: 3, 1: 1}),
     )
 )
@@ -62,10 +62,10 @@ STRUCK_LISTING = b"""\
 1 4 2 11
 0 policy 0 0
 1 policy 0 0
-2 fill 0
+2 fill 2
 3 fill 1
-4 fill 2
-5 hit 0
+4 fill 0
+5 hit 2
 6 evict 1 1 0
 7 policy 0 0
 8 hit 1
@@ -74,15 +74,15 @@ STRUCK_LISTING = b"""\
 domain 0 2 5 2 0 0 5 0
 domain 1 0 0 0 0 0 0 0
 """
-_STRUCK_MOVED = {0: Row(0b0111, 0, 0x1230, (0, 3, 2, 0))}
+_STRUCK_MOVED = {0: Row(0b0111, 0, 0x1230, (2, 3, 0, 0))}
 STRUCK_STREAM = b"".join(
     (
         *_MADE,
-        block(_BOTH, 0, {0: Row(0b0111, 0, 0x3201, (0, 3, 2, 0))}, 3, 0),
+        block(_BOTH, 0, {0: Row(0b0111, 0, 0x3021, (2, 3, 0, 0))}, 3, 0),
         block(_LOCKED, 0, _STRUCK_MOVED, 0, 0),
         block(_LOCKED, 0, _STRUCK_MOVED, 2, 0),
         block(_BOTH, 0, _STRUCK_MOVED, 0, 0),
-        block(_BOTH, 0, {0: Row(0b0111, 0, 0x2301, (0, 4, 2, 0))}, 3, 0),
+        block(_BOTH, 0, {0: Row(0b0111, 0, 0x2301, (2, 4, 0, 0))}, 3, 0),
         held({0: 3}),
     )
 )
