@@ -7,12 +7,12 @@ use native.Mathlib.Omega.{arith}
 use lib.Dec.{eqb, ltb}
 use lib.Count.{leadingZeros, leading-top}
 use borrow.Author.Tests.{eqb-true, eqb-false, lt-ltb, le-ltb}
-use Rattle.waymap.specs.Bits.{Bits, bit, any}
+use Rattle.waymap.specs.Bits.{Bits, bit, any, lowest}
 use Rattle.waymap.specs.Encoder.{encode}
 use Rattle.waymap.proofs.Booleans.{cases}
 use Rattle.waymap.proofs.BitLaws.{bit-none}
 use Rattle.waymap.proofs.WordLaws.{bit-high, high-none}
-use Rattle.waymap.proofs.WayLaws.{any-last, none-at}
+use Rattle.waymap.proofs.WayLaws.{any-last, none-at, lowest-none}
 
 -- ---- of maps, by computing: of ways 1 and 2 way 2, of way 0 way 0, of all but way 15 way 14; an empty map has none
 
@@ -100,6 +100,6 @@ module _ (n : ℕ) {x : ℕ} (some : x ≡ 0 → ⊥) (h : x < 2 ^ n) where
       let place : n - 1 - leadingZeros n x ≡ top .0 = omega (arith, top .1) in
       place ∙ sym (encode-is n (bit x) (top .0) (omega (arith, top .1)) above top-set)
 
--- an empty map has none
-pub encode-empty : (n : ℕ) {x : ℕ} → x ≡ 0 → 16 ≡ encode n (bit x)
-encode-empty n e = rw e (sym (encode-none n (bit 0) (λ i h. bit-none i)))
+-- an empty map of sixteen ways has no highest, as it has no lowest
+pub encode-empty : {x : ℕ} → x ≡ 0 → lowest 16 (bit x) ≡ encode 16 (bit x)
+encode-empty e = rw e (lowest-none 16 (bit 0) (λ i h. bit-none i) ∙ sym (encode-none 16 (bit 0) (λ i h. bit-none i)))

@@ -75,12 +75,12 @@ pub fn lowest_way(map: u16) -> usize
     u16::trailing_zeros(map) as usize
 }
 
-// The way that the priority encoder gives of the map, the highest; 16 where the map is empty.
+// The way that the priority encoder gives of the map, the highest. An empty map has none, and gives 16 as for the lowest.
 pub fn encode(map: u16) -> usize
     ensures { λ r. ⌜ r ≡ encodeMap 16 (bit map) ⌝ }
 {
     if map == 0 {
-        return 16;
+        return lowest_way(map);
     }
     15 - (u16::leading_zeros(map) as usize)
 }
