@@ -6,9 +6,10 @@ use native.Mathlib.Nat.{le-of-eq}
 use native.Mathlib.Omega.{arith}
 use lib.ListN.{length, getD, take, drop, set, replicate, List·getD-map, length-map}
 use lib.Seq.{sets, drop-drop}
-use Rattle.endian.specs.Bytes.{value, digits, field, cut, numbers, putField}
+use Rattle.endian.specs.Bytes.{value, digits, field, cut, putField}
+use Rattle.runs.specs.Runs.{numbers}
 use Rattle.endian.proofs.CutLaws.{part-in, cut-long}
-use Rattle.endian.proofs.TableLaws.{map-set, chunk, chunks-put, numbers-put, numbers-front, numbers-bytes, numbers-long, bytes-long}
+use Rattle.runs.proofs.TableLaws.{map-set, chunk, chunks-put, numbers-put, numbers-front, numbers-bytes, numbers-long, bytes-long}
 use Rattle.geometry.specs.declared.Geometry.{Geometry}
 use Rattle.domains.specs.Domains.{maxDomains, noCounts, noDomain, domainOf, putDomain}
 use Rattle.domains.specs.declared.Counts.{Counts}

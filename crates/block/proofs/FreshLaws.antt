@@ -6,9 +6,10 @@ use native.Mathlib.Nat.{zero-mul, suc-mul}
 use native.Mathlib.Omega.{arith}
 use lib.ListN.{length, take, drop, replicate, length-replicate, replicate-append-replicate}
 use lib.Seq.{sets, length-sets, take-at, drop-at}
-use Rattle.endian.specs.Bytes.{digits, cut, sum, joined, bytesOf}
+use Rattle.endian.specs.Bytes.{digits, cut, sum, joined}
+use Rattle.runs.specs.Runs.{bytesOf}
 use Rattle.endian.proofs.CutLaws.{join-cut, sets-all}
-use Rattle.endian.proofs.TableLaws.{bytes-long}
+use Rattle.runs.proofs.TableLaws.{bytes-long}
 use Rattle.replacement.specs.Rule.{ruleOf}
 use Rattle.geometry.specs.declared.Geometry.{Geometry}
 use Rattle.domains.specs.Domains.{noDomain}

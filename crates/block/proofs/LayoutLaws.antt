@@ -6,9 +6,10 @@ use native.Mathlib.Nat.{suc-mul}
 use native.Mathlib.Omega.{arith}
 use lib.ListN.{length, take, drop, replicate, length-drop, length-map}
 use lib.Seq.{length-take-le, take-add}
-use Rattle.endian.specs.Bytes.{value, digits, field, cut, joined, numbers, bytesOf}
+use Rattle.endian.specs.Bytes.{value, digits, field, cut, joined}
+use Rattle.runs.specs.Runs.{numbers, bytesOf}
 use Rattle.endian.proofs.CutLaws.{join-cut, cut-long}
-use Rattle.endian.proofs.TableLaws.{Bytes, bytes-take, bytes-drop, digits-value, bytes-numbers, numbers-long}
+use Rattle.runs.proofs.TableLaws.{Bytes, bytes-take, bytes-drop, digits-value, bytes-numbers, numbers-long}
 use Rattle.geometry.specs.Named.{geometryOf}
 use Rattle.geometry.specs.declared.Geometry.{Geometry}
 use Rattle.domains.specs.Domains.{maxDomains}

@@ -6,10 +6,11 @@ use native.Mathlib.Nat.{suc-mul, mul-le-mul-right, le-of-eq}
 use native.Mathlib.Omega.{arith}
 use lib.ListN.{length, getD, take, drop, set}
 use lib.Seq.{sets, length-sets}
-use Rattle.endian.specs.Bytes.{digits, field, cut, sum, numbers, putField}
+use Rattle.endian.specs.Bytes.{digits, field, cut, sum, putField}
+use Rattle.runs.specs.Runs.{numbers}
 use Rattle.endian.proofs.CutLaws.{cut-part, cut-sets, part-long as part-size, parts-end}
 use Rattle.endian.proofs.DigitLaws.{digits-long, put-whole}
-use Rattle.endian.proofs.TableLaws.{number-in}
+use Rattle.runs.proofs.TableLaws.{number-in}
 use Rattle.geometry.specs.declared.Geometry.{Geometry}
 use Rattle.block.specs.Layout.{sizes}
 use Rattle.block.specs.Inside.{Blocked}

@@ -7,10 +7,10 @@ use native.Mathlib.Omega.{arith}
 use lib.Dec.{eqb}
 use lib.ListN.{length, getD, take}
 use borrow.Author.Tests.{eq-eqb, ne-eqb}
-use Rattle.endian.specs.Bytes.{bytesOf, putRun}
+use Rattle.runs.specs.Runs.{bytesOf, putRun}
 use Rattle.endian.proofs.CutLaws.{sets-all}
-use Rattle.endian.proofs.RunLaws.{run-put}
-use Rattle.endian.proofs.TableLaws.{bytes-long}
+use Rattle.runs.proofs.RunLaws.{run-put}
+use Rattle.runs.proofs.TableLaws.{bytes-long}
 use Rattle.block.specs.Block.{answerBytes, padded, numberIn, filled}
 use Rattle.block.specs.Inside.{repliedOf, replied}
 

@@ -4,9 +4,10 @@ use mathlib.Core.List.{List, [], _∷_, map}
 use Prim.Native.Nat.{ℕ, suc, _+_, _*_, _/_, _%_, _^_, _<_}
 use native.Mathlib.Omega.{arith}
 use lib.ListN.{length, getD, replicate, length-map, List·getD-map}
-use Rattle.endian.specs.Bytes.{value, digits, field, cut, sum, joined, numbers, bytesOf}
+use Rattle.endian.specs.Bytes.{value, digits, field, cut, sum, joined}
+use Rattle.runs.specs.Runs.{numbers, bytesOf}
 use Rattle.endian.proofs.CutLaws.{cut-join, joined-long}
-use Rattle.endian.proofs.TableLaws.{numbers-bytes, bytes-long}
+use Rattle.runs.proofs.TableLaws.{numbers-bytes, bytes-long}
 use Rattle.geometry.specs.Named.{geometryOf}
 use Rattle.geometry.specs.declared.Geometry.{Geometry}
 use Rattle.domains.specs.Domains.{maxDomains, noDomain}

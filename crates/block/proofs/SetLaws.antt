@@ -6,8 +6,9 @@ use native.Mathlib.Nat.{le-of-eq}
 use native.Mathlib.Omega.{arith}
 use lib.ListN.{length, getD, take, drop, set as put-at}
 use lib.Seq.{sets, sets-eq, length-sets, drop-drop}
-use Rattle.endian.specs.Bytes.{digits, field, cut, numbers, bytesOf, putField}
-use Rattle.endian.proofs.TableLaws.{number-at, numbers-front, numbers-put, numbers-puts, numbers-part, numbers-in, bytes-long, numbers-long}
+use Rattle.endian.specs.Bytes.{digits, field, cut, putField}
+use Rattle.runs.specs.Runs.{numbers, bytesOf}
+use Rattle.runs.proofs.TableLaws.{number-at, numbers-front, numbers-put, numbers-puts, numbers-part, numbers-in, bytes-long, numbers-long}
 use Rattle.geometry.specs.declared.Geometry.{Geometry}
 use Rattle.row.specs.Calls.{rowOf}
 use Rattle.row.specs.declared.Lines.{Lines}

@@ -6,7 +6,7 @@ use native.Mathlib.Nat.{sub-zero}
 use native.Mathlib.Omega.{arith}
 use lib.ListN.{length, take, drop, replicate}
 use lib.Seq.{sets, length-take-le}
-use Rattle.endian.specs.Bytes.{numbers, bytesOf}
+use Rattle.runs.specs.Runs.{numbers, bytesOf}
 use Rattle.geometry.specs.declared.Geometry.{Geometry}
 use Rattle.row.specs.Row.{Row, Effect}
 use Rattle.row.specs.Calls.{rowOf, result, told}

@@ -4,7 +4,7 @@ use mathlib.Core.List.{List, [], _∷_}
 use Prim.Native.Nat.{ℕ}
 use lib.Dec.{eqb, ltb}
 use lib.ListN.{length, getD}
-use Rattle.endian.specs.Bytes.{bytesOf}
+use Rattle.runs.specs.Runs.{bytesOf}
 use Rattle.command.specs.Answer.{answerOf}
 use Rattle.command.specs.declared.Answer.the-variants.{Refused}
 use Rattle.geometry.specs.Geometry.{within}

@@ -4,7 +4,8 @@ use mathlib.Core.List.{List, [], _++_}
 use Prim.Native.Nat.{ℕ, _+_, _*_, _^_, _<_}
 use lib.ListN.{length, getD, take, drop}
 use lib.Seq.{sets}
-use Rattle.endian.specs.Bytes.{digits, field, cut, sum, putField, numbers, bytesOf}
+use Rattle.endian.specs.Bytes.{digits, field, cut, sum, putField}
+use Rattle.runs.specs.Runs.{numbers, bytesOf}
 use Rattle.geometry.specs.Inside.{Limited}
 use Rattle.geometry.specs.declared.Geometry.{Geometry}
 use Rattle.row.specs.Row.{Row, Effect}

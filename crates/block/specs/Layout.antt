@@ -3,7 +3,8 @@
 use mathlib.Core.List.{List, [], _∷_, _++_, map}
 use Prim.Native.Nat.{ℕ, _*_}
 use lib.ListN.{getD, replicate}
-use Rattle.endian.specs.Bytes.{digits, field, cut, sum, joined, numbers, bytesOf}
+use Rattle.endian.specs.Bytes.{digits, field, cut, sum, joined}
+use Rattle.runs.specs.Runs.{numbers, bytesOf}
 use Rattle.geometry.specs.declared.Geometry.{Geometry}
 use Rattle.domains.specs.Domains.{maxDomains}
 use Rattle.domains.specs.declared.Counts.{Counts}

@@ -5,7 +5,7 @@ ghost use mathlib.Core.Path.{_≡_};
 ghost use Prim.Native.Nat.{_+_, _*_, _≤_};
 ghost use lib.ListN.{length, replicate};
 ghost use lib.Seq.{sets as setsOf};
-ghost use Rattle.endian.specs.Bytes.{bytesOf};
+ghost use Rattle.runs.specs.Runs.{bytesOf};
 ghost use Rattle.steps.specs.Fresh.{fresh as freshState};
 ghost use Rattle.block.specs.Layout.{blockOf};
 ghost use Rattle.block.specs.Inside.{Blocked, namedBy};

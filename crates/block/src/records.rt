@@ -20,7 +20,7 @@ fn counts_at(block: &[u8], at: usize) -> Counts
     ensures { λ r. ⌜ r ≡ countsIn (drop at (now (block .entry))) ⌝ }
 {
     let mut c = [0u32; 7];
-    endian::read_u32s(block, at, &mut c[0..7]);
+    runs::read_u32s(block, at, &mut c[0..7]);
     Counts {
         hits: c[0],
         misses: c[1],
@@ -45,7 +45,7 @@ fn put_counts(block: &mut [u8], at: usize, c: Counts)
         c.fills,
         c.dropped,
     ];
-    endian::put_u32s(block, at, &all[0..7]);
+    runs::put_u32s(block, at, &all[0..7]);
 }
 
 // The record of a domain.

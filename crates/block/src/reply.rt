@@ -52,6 +52,6 @@ pub fn put(answer: &mut [u8], told: Answer) -> u64
     if answer.len() != 32 {
         return number(word, first);
     }
-    endian::put_u64s(answer, 0, &fields[0..4]);
+    runs::put_u64s(answer, 0, &fields[0..4]);
     number(word, first)
 }

@@ -50,10 +50,10 @@ fn use_row(
     requires { ⌜ at .row + 8 * length (now row) ≤ length (now block) ⌝ }
     ensures { λ r. ⌜ RowWorked at (useOf usage rule maps tag) (length (now (row .entry))) (now (block .entry)) r (now (block .exit)) ⌝ }
 {
-    endian::read_u64s(block, at.row, row);
+    runs::read_u64s(block, at.row, row);
     let lines = lines_at(block, at);
     let done = row::use_line(row, lines, rule, maps, usage, tag);
-    endian::put_u64s(block, at.row, row);
+    runs::put_u64s(block, at.row, row);
     put_lines(block, at, done.lines);
     done.answer
 }
@@ -77,10 +77,10 @@ fn sweep_row(block: &mut [u8], row: &mut [u64], at: Places, sweep: Sweep) -> Ans
     requires { ⌜ at .row + 8 * length (now row) ≤ length (now block) ⌝ }
     ensures { λ r. ⌜ RowWorked at (sweepBy sweep) (length (now (row .entry))) (now (block .entry)) r (now (block .exit)) ⌝ }
 {
-    endian::read_u64s(block, at.row, row);
+    runs::read_u64s(block, at.row, row);
     let lines = lines_at(block, at);
     let done = sweep::swept(row, lines, sweep);
-    endian::put_u64s(block, at.row, row);
+    runs::put_u64s(block, at.row, row);
     put_lines(block, at, done.lines);
     done.answer
 }

@@ -2,5 +2,3 @@
 pub mod FieldLaws
 pub mod DigitLaws
 pub mod CutLaws
-pub mod TableLaws
-pub mod RunLaws

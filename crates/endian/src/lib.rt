@@ -1,10 +1,9 @@
 // Little-endian numbers in lent bytes of any number and content.
 mod rest;
-mod runs;
 mod whole;
 
 ghost use mathlib.Core.Path.{_≡_};
-ghost use Rattle.endian.specs.Bytes.{field, putField, readRun, putRun};
+ghost use Rattle.endian.specs.Bytes.{field, putField};
 
 // The number of one byte at a place; 0 behind the end.
 pub fn u8_at(bytes: &[u8], at: usize) -> u8
@@ -97,41 +96,5 @@ pub fn put_u64(bytes: &mut [u8], at: usize, value: u64)
     }
     if 8 <= all - at {
         whole::put_eight(bytes, at, value);
-    }
-}
-
-// As many numbers of four bytes as are asked for, from byte `at` on; none is read where fewer are left.
-pub fn read_u32s(bytes: &[u8], at: usize, numbers: &mut [u32])
-    ensures { λ _. ⌜ now (numbers .exit) ≡ readRun at 4 (now (bytes .entry)) (now (numbers .entry)) ⌝ }
-{
-    if numbers.len() <= rest::left(bytes, at) / 4 {
-        runs::load_u32s(bytes, at, numbers);
-    }
-}
-
-// All of them put, from byte `at` on; none is where they would reach past the end.
-pub fn put_u32s(bytes: &mut [u8], at: usize, numbers: &[u32])
-    ensures { λ _. ⌜ now (bytes .exit) ≡ putRun at 4 (now (numbers .entry)) (now (bytes .entry)) ⌝ }
-{
-    if numbers.len() <= rest::left(bytes, at) / 4 {
-        runs::store_u32s(bytes, at, numbers);
-    }
-}
-
-// As many numbers of eight bytes as are asked for, from byte `at` on; none is read where fewer are left.
-pub fn read_u64s(bytes: &[u8], at: usize, numbers: &mut [u64])
-    ensures { λ _. ⌜ now (numbers .exit) ≡ readRun at 8 (now (bytes .entry)) (now (numbers .entry)) ⌝ }
-{
-    if numbers.len() <= rest::left(bytes, at) / 8 {
-        runs::load_u64s(bytes, at, numbers);
-    }
-}
-
-// All of them put, from byte `at` on; none is where they would reach past the end.
-pub fn put_u64s(bytes: &mut [u8], at: usize, numbers: &[u64])
-    ensures { λ _. ⌜ now (bytes .exit) ≡ putRun at 8 (now (numbers .entry)) (now (bytes .entry)) ⌝ }
-{
-    if numbers.len() <= rest::left(bytes, at) / 8 {
-        runs::store_u64s(bytes, at, numbers);
     }
 }

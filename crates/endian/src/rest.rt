@@ -4,17 +4,6 @@ ghost use Prim.Native.Nat.{_+_, _-_, _^_, _<_};
 ghost use lib.ListN.{length};
 ghost use Rattle.endian.specs.Bytes.{field};
 
-// How many bytes there are from a place on.
-pub fn left(bytes: &[u8], at: usize) -> usize
-    ensures { λ r. ⌜ r ≡ length (now (bytes .entry)) - at ⌝ }
-{
-    let all = bytes.len();
-    if at < all {
-        return all - at;
-    }
-    0
-}
-
 // A byte as a wider number.
 fn wide(byte: u8) -> u64
     ensures { λ r. ⌜ r ≡ byte ⌝ }

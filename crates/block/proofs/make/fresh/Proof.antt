@@ -6,7 +6,7 @@ use native.Mathlib.Omega.{arith}
 use lib.ListN.{length, replicate}
 use lib.Seq.{sets}
 use Rattle.replacement.specs.Calls.{Result, freshOf}
-use Rattle.endian.specs.Bytes.{bytesOf}
+use Rattle.runs.specs.Runs.{bytesOf}
 use Rattle.block.specs.Layout.{sizes}
 use Rattle.block.specs.Inside.{namedBy}
 use Rattle.block.proofs.PartLaws.{start}

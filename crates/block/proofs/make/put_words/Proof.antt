@@ -4,7 +4,7 @@ use Prim.Native.Nat.{_+_, _-_, _*_}
 use native.Mathlib.Omega.{arith}
 use lib.ListN.{replicate, length-replicate, getD-replicate}
 use Rattle.endian.proofs.DigitLaws.{put-whole}
-use Rattle.endian.proofs.RunLaws.{Storing, store-begin, store-turned, store-end}
+use Rattle.runs.proofs.RunLaws.{Storing, store-begin, store-turned, store-end}
 use Rattle.block.proofs.make.put_words.Statement.{statement}
 use Rattle.block.proofs.make.put_words.Tie as tie
 

@@ -4,7 +4,7 @@ use mathlib.Core.List.{List, append-nil}
 use Prim.Native.Nat.{ℕ}
 use native.Mathlib.Omega.{arith}
 use lib.ListN.{replicate}
-use Rattle.endian.proofs.RunLaws.{run-read}
+use Rattle.runs.proofs.RunLaws.{run-read}
 use Rattle.block.specs.Layout.{countsFrom, countsIn}
 use borrow.Author.Needs.{needs}
 use Rattle.block.proofs.records.counts_at.Statement.{statement}

@@ -1,7 +1,7 @@
 -- `block::records::put_counts` meets its contract.
 use mathlib.Core.Path.{_∙_}
 use native.Mathlib.Omega.{arith}
-use Rattle.endian.proofs.RunLaws.{run-put}
+use Rattle.runs.proofs.RunLaws.{run-put}
 use Rattle.block.specs.Layout.{sevenOf, countsBytes}
 use borrow.Author.Needs.{needs}
 use Rattle.block.proofs.records.put_counts.Statement.{statement}

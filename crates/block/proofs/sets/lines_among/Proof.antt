@@ -6,8 +6,8 @@ use Prim.Native.Nat.{ℕ, _-_, _%_, _^_}
 use native.Mathlib.Omega.{arith}
 use lib.ListN.{drop}
 use Rattle.waymap.specs.Bits.{bit, count}
-use Rattle.endian.specs.Bytes.{numbers}
-use Rattle.endian.proofs.TableLaws.{numbers-long}
+use Rattle.runs.specs.Runs.{numbers}
+use Rattle.runs.proofs.TableLaws.{numbers-long}
 use Rattle.sweep.specs.Number.{linesAmong}
 use Rattle.sweep.proofs.NumberLaws.{Adding, begin, turned, end}
 use Rattle.block.proofs.SetLaws.{valid-all, valid-at}

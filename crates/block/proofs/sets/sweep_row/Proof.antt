@@ -1,7 +1,7 @@
 -- `block::sets::sweep_row` meets its contract.
 use mathlib.Core.Path.{_∙_}
 use native.Mathlib.Omega.{arith}
-use Rattle.endian.proofs.RunLaws.{run-read, run-put}
+use Rattle.runs.proofs.RunLaws.{run-read, run-put}
 use Rattle.sweep.specs.Sweep.{sweepBy}
 use Rattle.block.proofs.WorkLaws.{row-worked}
 use borrow.Author.Needs.{needs}

@@ -1,0 +1,2 @@
+-- Tables and runs of numbers in bytes.
+pub mod Runs
