@@ -22,10 +22,6 @@ sum-same n zero k h = sym (zero-mul n)
 sum-same n (suc i) zero h = absurd (omega arith)
 sum-same n (suc i) (suc k) h = rw (suc-mul i n, sum-same n i k (omega arith)) (omega arith)
 
-pub sum-all : (n k : ℕ) → sum (replicate k n) ≡ k * n
-sum-all n zero = sym (zero-mul n)
-sum-all n (suc k) = rw (suc-mul k n, sum-all n k) (omega arith)
-
 pub map-set : {A B : Type 0} (f : A → B) (l : List A) (i : ℕ) (y : A) → map f (set l i y) ≡ set (map f l) i (f y)
 map-set f [] i y = refl
 map-set f (x ∷ l) zero y = refl

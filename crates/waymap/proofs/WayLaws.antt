@@ -87,11 +87,6 @@ lowest-ext zero e = refl
 lowest-ext (suc n) e =
     ap₂ (λ (b : Bool) (r : ℕ). cond b 0 (suc r)) (e 0 (omega arith)) (lowest-ext n (λ i h. e (suc i) (omega arith)))
 
-pub lowest-le : (n : ℕ) (p : Bits) → lowest n p ≤ n
-unfolding lowest
-lowest-le zero p = zero-le
-lowest-le (suc n) p = cases (p 0) (λ t. rw t zero-le) (λ t. rw t (suc-le-suc (lowest-le n (λ (i : ℕ). p (suc i)))))
-
 -- where some way passes, the lowest is one of them
 pub lowest-found : (n : ℕ) (p : Bits) → any n p ≡ true → (lowest n p < n) × (p (lowest n p) ≡ true)
 unfolding any lowest
@@ -112,14 +107,6 @@ lowest-first (suc n) p (suc i) h =
     cases (p 0)
     (λ t. absurd (not-suc-le-zero (rw t at h)))
     (λ t. lowest-first n (λ (j : ℕ). p (suc j)) i (le-of-suc-le-suc (rw t at h)))
-
--- where some way below k passes, looking further changes nothing
-pub lowest-wider : (k n : ℕ) (p : Bits) → k ≤ n → any k p ≡ true → lowest n p ≡ lowest k p
-unfolding any lowest
-lowest-wider zero n p h e = absurd (false≢true e)
-lowest-wider (suc k) zero p h e = absurd (not-suc-le-zero h)
-lowest-wider (suc k) (suc n) p h e =
-    cases (p 0) (λ t. rw t) (λ t. rw t (ap suc (lowest-wider k n (λ (i : ℕ). p (suc i)) (le-of-suc-le-suc h) (rw t at e))))
 
 -- the first way that passes is the lowest
 pub lowest-is : (n : ℕ) (p : Bits) (i : ℕ) → i < n → ((k : ℕ) → k < i → p k ≡ false) → p i ≡ true → lowest n p ≡ i
@@ -172,15 +159,6 @@ passed-found {p} {n} {way} l h e = any-at n p way h e
 
 pub passed-all : {p : Bits} {n way : ℕ} → Passed p n way → n ≤ way → any n p ≡ false
 passed-all {p} {n} {way} l h = any-none n (λ i k. l .none i (lt-of-lt-of-le k h))
-
--- and the way that it ends at is the lowest that passes
-pub passed-here : {p : Bits} {n way : ℕ} {b : Bool} → Passed p n way → way < n → b ≡ p way → b ≡ true → way ≡ lowest n p
-passed-here {p} {n} {way} l h e t = sym (lowest-is n p way h (l .none) (sym e ∙ t))
-
-pub passed-end : {p : Bits} {n way : ℕ} → Passed p n way → n ≤ way → way ≡ lowest n p
-passed-end {p} {n} {way} l h =
-    let all : way ≡ n = omega (arith, l .within) in
-    all ∙ sym (lowest-none n p (λ k m. l .none k (lt-of-lt-of-le m h)))
 
 -- ---- how many ways
 
