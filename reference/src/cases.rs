@@ -81,9 +81,8 @@ fn case_a_the_listing() {
 /// By document 02, fills and dropped: domain 0 gives up way 1, with the dirty line in it, and takes it back; then
 /// domain 1 is removed, and starts from zero when it is back. Both lines are gone: to load them again is to fill. The
 /// line that domain 0 loads is the one of address 0, which was its first and so in way 1.
-#[test]
-fn where_the_lines_went() {
-    let steps = [
+fn steps_that_drop() -> [Code; 11] {
+    [
         policy(0, 3),
         policy(1, 12),
         (0, STORE, 0),
@@ -95,7 +94,11 @@ fn where_the_lines_went() {
         policy(1, 8),
         (1, LOAD, 0),
         (0, LOAD, 0),
-    ];
+    ]
+}
+
+#[test]
+fn where_the_lines_went() {
     let due = "\
 1 4 0 11
 0 policy 0 0
@@ -112,17 +115,47 @@ fn where_the_lines_went() {
 domain 0 0 3 0 0 0 3 1
 domain 1 0 1 0 0 0 1 0
 ";
-    assert_eq!(list(1, 4, 0, &steps), due);
+    assert_eq!(list(1, 4, 0, &steps_that_drop()), due);
+}
+
+/// The same step by step: the ways visited, the domain and its counts. The drop stays in domain 0's counts, and those
+/// of domain 1 are zero after its removal. Domain 1 then has one way.
+#[test]
+fn where_the_lines_went_step_by_step() {
+    let due = "\
+0 0 0 0 0 0 0 0 0
+0 1 0 0 0 0 0 0 0
+2 0 0 1 0 0 0 1 0
+2 0 0 2 0 0 0 2 0
+2 1 0 1 0 0 0 1 0
+0 0 0 2 0 0 0 2 1
+0 0 0 2 0 0 0 2 1
+0 1 0 0 0 0 0 0 0
+0 1 0 0 0 0 0 0 0
+1 1 0 1 0 0 0 1 0
+2 0 0 3 0 0 0 3 1
+held 2 1 0 0 0 0 0 0 0 0 0 0 0 0 0 0
+";
+    assert_eq!(visits::of_file(&file(1, 4, 0, &steps_that_drop())), due);
 }
 
 /// Four misses in maps of two ways; then a flush of the map's first way, a refused step and a hit in its second way.
-/// Beside the ways visited is the domain. Of domain 0's three lines one was evicted and one flushed.
+/// Beside the ways visited are the domain and its counts. Of domain 0's three lines one was evicted and one flushed.
 #[test]
 fn case_a_the_ways_visited() {
-    let text = visits::of_file(&file(1, 4, 0, &steps_of_case_a()));
-    let numbers: Vec<&str> = text.lines().collect();
-    assert_eq!(numbers[..9], ["0 0", "0 1", "2 0", "2 0", "2 1", "2 0", "1 0", "0 2", "2 0"]);
-    assert_eq!(numbers[9..], ["held 1 1 0 0 0 0 0 0 0 0 0 0 0 0 0 0"]);
+    let due = "\
+0 0 0 0 0 0 0 0 0
+0 1 0 0 0 0 0 0 0
+2 0 0 1 0 0 0 1 0
+2 0 0 2 0 0 0 2 0
+2 1 0 1 0 0 0 1 0
+2 0 0 3 1 1 0 3 0
+1 0 0 3 1 1 1 3 0
+0 2 0 0 0 0 0 0 0
+2 0 1 3 1 1 1 3 0
+held 1 1 0 0 0 0 0 0 0 0 0 0 0 0 0 0
+";
+    assert_eq!(visits::of_file(&file(1, 4, 0, &steps_of_case_a())), due);
 }
 
 #[test]
@@ -383,16 +416,27 @@ fn touches_outside_the_map_of_the_rules_called_alone() {
 }
 
 /// Domain 15 has ways 9 to 11 and 13 of sixteen: four without a hit, the first two up to way 10. The fourth line that
-/// it loads is in way 9, and the third in way 10. A file without a step has no such number, and a refused one has none
-/// either. Of four lines one is flushed.
+/// it loads is in way 9, and the third in way 10. A refused step leaves the counts. A file without a step has no such
+/// number, and a refused one has none either. Of four lines one is flushed.
 #[test]
 fn the_ways_visited_by_a_file() {
     let mut steps = vec![policy(15, 0x2e00)];
     steps.extend([0, 4096, 8192, 12_288, 12_288, 8192].map(|address| (15, LOAD, address)));
     steps.extend([(15, FLUSH, 8192), (15, 4, 0), (0, LOAD, 0)]);
     let held = |lines: u32| format!("held{} {lines}\n", " 0".repeat(15));
-    let due = format!("0 15\n4 15\n4 15\n4 15\n4 15\n1 15\n2 15\n2 15\n0 15\n0 0\n{}", held(3));
-    assert_eq!(visits::of_file(&file(64, 16, 2, &steps)), due);
+    let due = "\
+0 15 0 0 0 0 0 0 0
+4 15 0 1 0 0 0 1 0
+4 15 0 2 0 0 0 2 0
+4 15 0 3 0 0 0 3 0
+4 15 0 4 0 0 0 4 0
+1 15 1 4 0 0 0 4 0
+2 15 2 4 0 0 0 4 0
+2 15 2 4 0 0 1 4 0
+0 15 2 4 0 0 1 4 0
+0 0 0 0 0 0 0 0 0
+";
+    assert_eq!(visits::of_file(&file(64, 16, 2, &steps)), format!("{due}{}", held(3)));
     assert_eq!(visits::of_file(&file(64, 16, 2, &[])), held(0));
     assert_eq!(visits::of_file(&file(64, 16, 3, &steps)), "refused\n");
     assert_eq!(visits::of_file(&file(512, 16, 2, &steps)), "refused\n");
@@ -484,17 +528,41 @@ fn without_a_list_of_cores() {
     assert_eq!(call(1, 4, 0, &steps_of_cores()), format!("1 4 0 26\n{}{counts}", lines.concat()));
 }
 
-/// The ways visited and the domain, 65535 for a selector write and for core 32. Of domain 0's five lines two were
-/// evicted and one flushed.
+/// The ways visited, the domain, 65535 for a selector write and for core 32, and the counts of a domain below 16. Of
+/// domain 0's five lines two were evicted and one flushed.
+const VISITS_OF_CORES: &str = "\
+0 0 0 0 0 0 0 0 0
+0 1 0 0 0 0 0 0 0
+2 0 0 1 0 0 0 1 0
+0 65535
+2 1 0 1 0 0 0 1 0
+2 0 0 2 0 0 0 2 0
+2 1 1 1 0 0 0 1 0
+2 1 1 1 0 0 0 1 0
+0 65535
+1 0 0 2 0 1 1 2 0
+2 1 2 1 0 0 0 1 0
+2 0 1 2 0 1 1 2 0
+2 0 1 3 0 1 1 3 0
+1 0 2 3 0 1 1 3 0
+2 0 2 4 1 1 1 4 0
+2 0 2 5 2 1 1 5 0
+0 65535
+0 65535
+0 65535
+0 15 0 0 0 0 0 0 0
+0 65535
+0 65535
+0 65535
+0 15 0 0 0 0 0 0 0
+0 20
+0 5 0 0 0 0 0 0 0
+held 2 1 0 0 0 0 0 0 0 0 0 0 0 0 0 0
+";
+
 #[test]
 fn the_ways_visited_through_cores() {
-    let text = visits::of_file(&file(1, 4, 0, &steps_of_cores()));
-    let lines: Vec<&str> = text.lines().collect();
-    assert_eq!(lines[..9], ["0 0", "0 1", "2 0", "0 65535", "2 1", "2 0", "2 1", "2 1", "0 65535"]);
-    assert_eq!(lines[9..16], ["1 0", "2 1", "2 0", "2 0", "1 0", "2 0", "2 0"]);
-    assert_eq!(lines[16..20], ["0 65535", "0 65535", "0 65535", "0 15"]);
-    assert_eq!(lines[20..26], ["0 65535", "0 65535", "0 65535", "0 15", "0 20", "0 5"]);
-    assert_eq!(lines[26..], ["held 2 1 0 0 0 0 0 0 0 0 0 0 0 0 0 0"]);
+    assert_eq!(visits::of_file(&file(1, 4, 0, &steps_of_cores())), VISITS_OF_CORES);
 }
 
 /// The places of the steps that each domain's struck-out list does not have. The geometry does not matter, unless 10

@@ -2,13 +2,13 @@
 //!
 //! The lister, in `main`, reads a trace file from standard input and writes the listing that document 01, "Trace file
 //! and listing", defines; with the argument `rules` it writes what the replacement rules called alone give, with
-//! `visits` how many ways the lookup of each step visited and for which domain, and the lines that the domains hold at
-//! the end, with `slices` the listing of its steps as calls, which may have more sets than a trace file, or records and
-//! tables that are lent, and with `purge` and a domain the domain's struck-out list. The block, in [`block`], is what C
-//! lends. All this was written from document 01 and, for true LRU, the order of work in the lookup, larger slices,
-//! touches outside the fill map, core selectors, fills and drops, the block, and the priority encoder, document 02,
-//! without packages, so that `tools/compare` can set the lister beside the proved programs, and `tests/block` the block
-//! beside the proved library.
+//! `visits` how many ways the lookup of each step visited and for which domain, with that domain's counts after the
+//! step, and the lines that the domains hold at the end, with `slices` the listing of its steps as calls, which may have
+//! more sets than a trace file, or records and tables that are lent, and with `purge` and a domain the domain's
+//! struck-out list. The block, in [`block`], is what C lends. All this was written from document 01 and, for true LRU,
+//! the order of work in the lookup, larger slices, touches outside the fill map, core selectors, fills and drops, the
+//! block, and the priority encoder, document 02, without packages, so that `tools/compare` can set the lister beside the
+//! proved programs, and `tests/block` the block beside the proved library.
 //! The rules, [`tree`], [`nru`] and [`lru`], the lookup that counts its visits, `find` in [`cache`], the limits of sets,
 //! in [`geometry`] and [`trace`], the core selectors, [`cores`], what is struck out, in [`purge`], the counts of fills
 //! and drops, in [`cache`], their number 7, in [`refusals`], [`lent`] and [`block`] were written without a look at their
@@ -32,7 +32,7 @@
 //! 11. [`trace`]: the trace file
 //! 12. [`listing`]: the text of a trace
 //! 13. [`rules`]: the text of the rules called alone; it does not use `listing`
-//! 14. [`visits`]: the text of the ways visited and the lines held; it uses neither `listing` nor `rules`
+//! 14. [`visits`]: the text of the ways visited, the counts and the lines held; it uses neither `listing` nor `rules`
 //! 15. [`lent`]: the text of calls on lent records and tables, by `listing`; it uses neither `rules` nor `visits`
 //! 16. [`slices`]: the text of calls, by `listing` and `lent`; it uses neither `rules` nor `visits`
 //! 17. [`purge`]: the text of a struck-out list; it uses none of the texts before it

@@ -2,7 +2,7 @@
 use mathlib.Core.Path.{_≡_, sym, ap, _∙_}
 use mathlib.Core.List.{List}
 use Prim.Native.Nat.{ℕ, _+_, _*_, _-_, _≤_, _<_}
-use native.Mathlib.Nat.{le-trans, le-of-eq, one-mul, add-mul, mul-le-mul-right}
+use native.Mathlib.Nat.{le-trans, le-of-eq, one-mul, mul-one, mul-add, add-mul, mul-le-mul-left, mul-le-mul-right}
 use native.Mathlib.Numerals.{add-one-le}
 use native.Mathlib.Omega.{arith}
 use mir.Syntax.{w64}
@@ -49,21 +49,19 @@ rows-kept a b c d r = record {
   words-long = le-trans (r .words-long) (le-of-eq (sym d));
 }
 
--- The maps of domain d, four bytes, among the first 64.
-pub maps-room : {d now long : ℕ} → d < 16 → now ≡ long → 64 ≤ long → 4 * d + 4 ≤ now
-maps-room h e l = omega arith
+-- Part i of n parts of one size that follow each other from `at`: a count, a core's selectors, a tag.
+pub part-room : (at size : ℕ) {i n now long : ℕ} → i < n → now ≡ long → at + size * n ≤ long → at + size * i + size ≤ now
+part-room at size {i} h e l =
+    let next : size * (i + 1) ≡ size * i + size = mul-add size i 1 ∙ ap (λ (k : ℕ). size * i + k) (mul-one size) in
+    omega (arith, mul-le-mul-left size (add-one-le h))
 
--- A block has room for more than these 64.
-pub held-room : {now long : ℕ} → now ≡ long → 168 + 142 * maxFileSets ≤ long → 64 ≤ now
+-- Part d of sixteen from the front, one for each domain: its record, or the lines that it holds.
+pub domain-room : (size : ℕ) {d now long : ℕ} → d < 16 → now ≡ long → size * 16 ≤ long → size * d + size ≤ now
+domain-room size h e l = omega (arith, part-room 0 size h e (omega (arith, l)))
+
+-- A block has room for more than the lines held.
+pub held-room : {now long : ℕ} → now ≡ long → 616 + 142 * maxFileSets ≤ long → 64 ≤ now
 held-room e l = omega arith
-
--- The selectors of core c, three bytes, among the 96 after them.
-pub records-room : {c now long : ℕ} → c < 32 → now ≡ long → 160 ≤ long → 64 + 3 * c + 3 ≤ now
-records-room h e l = omega arith
-
--- Tag w of a row's tags.
-pub tag-room : (at : ℕ) {ways w now long : ℕ} → w < ways → now ≡ long → at + 8 * ways ≤ long → at + 8 * w + 8 ≤ now
-tag-room at h e l = omega arith
 
 -- A field of a row, which has 142 bytes at most.
 pub first-room : (at : ℕ) {long : ℕ} → at + 142 ≤ long → at + 6 ≤ long

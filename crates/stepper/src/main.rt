@@ -1,14 +1,16 @@
 // Writes what the cache holds before the first step and after each step of the trace file on standard input, as numbers in bytes, the
-// lowest byte first. A block for each: the hit map and the fill map of the sixteen domains (2 bytes each), the selectors CS, DS and ES of the
-// 32 cores (1 byte each), the set of the step's argument (2), the number of rows that follow (2), how many ways the step's lookup visited (2; 0
-// where the step is refused or looks nothing up), the domain by which the cache took the step (2; 65535 where it took none: a selector write, a
-// core that is not in the list, and before the first step), and the rows: set (2), valid map (2), dirty map (2), replacement word (8), tags (8
-// each). An access or a flush, by a domain or a core, has the row of its set, a policy change has all rows, and so has the block before the
-// first step; other steps have none. After the last block come, for each of the sixteen domains, the valid lines in its hit map over all sets (4).
-// A refused file gives nothing. A failed read or write is told on standard error.
+// lowest byte first. A block for each: the records of the sixteen domains (32 bytes each: hit map and fill map, 2 bytes each, and the seven counts
+// in the order of the domain line of a listing, 4 each: hits, misses, evicted, written back, flushed, fills, dropped), the selectors CS, DS and ES
+// of the 32 cores (1 byte each), the set of the step's argument (2), the number of rows that follow (2), how many ways the step's lookup visited
+// (2; 0 where the step is refused or looks nothing up), the domain by which the cache took the step (2; 65535 where it took none: a selector
+// write, a core that is not in the list, and before the first step), and the rows: set (2), valid map (2), dirty map (2), replacement word (8),
+// tags (8 each). An access or a flush, by a domain or a core, has the row of its set, a policy change has all rows, and so has the block before
+// the first step; other steps have none. After the last block come, for each of the sixteen domains, the valid lines in its hit map over all
+// sets (4). A refused file gives nothing. A failed read or write is told on standard error.
 use command::Answer;
 use cores::Reply;
 use cores::Stepped;
+use domains::Counts;
 use domains::Domain;
 use domains::Domains;
 use geometry::Geometry;
@@ -24,7 +26,7 @@ use tracefile::MAX_SETS;
 ghost use mathlib.Core.Path.{_≡_};
 ghost use Prim.Native.Nat.{_+_, _*_, _≤_, _<_};
 ghost use lib.ListN.{length};
-ghost use Rattle.io.specs.Counts.{Counts};
+ghost use Rattle.io.specs.Counts.{Counts as CountsBytes};
 ghost use Rattle.tracefile.specs.File.{maxFileSets};
 ghost use Rattle.stepper.specs.Rows.{Small, Rows};
 
@@ -48,14 +50,48 @@ fn shorts(first: usize, second: u16, third: u16) -> u64 {
     (first as u64) % 65536 + (second as u64) * 65536 + (third as u64) * 4294967296
 }
 
-// Puts the domains' maps, 64 bytes, at the front.
-fn put_maps(domains: Domains, out: &mut [u8])
-    requires { ⌜ 64 ≤ length (now out) ⌝ }
+// A number of four bytes as one of eight.
+fn wide(number: u32) -> u64 {
+    number as u64
+}
+
+// Puts a domain's seven counts, 28 bytes, in the order of its line in a listing.
+fn put_counts(counts: Counts, out: &mut [u8], at: usize)
+    requires { ⌜ at + 28 ≤ length (now out) ⌝ }
+{
+    let list = [
+        counts.hits,
+        counts.misses,
+        counts.evicted,
+        counts.written,
+        counts.flushed,
+        counts.fills,
+        counts.dropped,
+    ];
+    let mut i = 0;
+    while i < 7 {
+        put(wide(list[i]), 4, out, at + 4 * i);
+        i += 1;
+    }
+}
+
+// Puts a domain's record, 32 bytes: its maps and its counts.
+fn put_domain(own: Domain, out: &mut [u8], at: usize)
+    requires { ⌜ at + 32 ≤ length (now out) ⌝ }
+{
+    let counts = own.counts;
+    put(shorts(own.hit as usize, own.fill, 0), 4, out, at);
+    put_counts(counts, out, at + 4);
+}
+
+// Puts the domains' records, 512 bytes, at the front.
+fn put_domains(domains: Domains, out: &mut [u8])
+    requires { ⌜ 512 ≤ length (now out) ⌝ }
 {
     let mut d = 0;
     while d < 16 {
         let own = domains.records[d];
-        put(shorts(own.hit as usize, own.fill, 0), 4, out, 4 * d);
+        put_domain(own, out, 32 * d);
         d += 1;
     }
 }
@@ -70,14 +106,14 @@ fn selectors_of(core: Core) -> u64 {
     (core.cs as u64) + 256 * (core.ds as u64) + 65536 * (core.es as u64)
 }
 
-// Puts the cores' selectors, 96 bytes, after the domains' maps.
+// Puts the cores' selectors, 96 bytes, after the domains' records.
 fn put_records(records: Records, out: &mut [u8])
-    requires { ⌜ 160 ≤ length (now out) ⌝ }
+    requires { ⌜ 608 ≤ length (now out) ⌝ }
 {
     let mut c = 0;
     while c < MAX_CORES {
         let core = records.list[c];
-        put(selectors_of(core), 3, out, 64 + 3 * c);
+        put(selectors_of(core), 3, out, 512 + 3 * c);
         c += 1;
     }
 }
@@ -145,7 +181,7 @@ fn put_rows(
     requires { ⌜ to ≤ maxFileSets ⌝ }
     requires { ⌜ ways ≤ 16 ⌝ }
     requires { ⌜ at + 142 * maxFileSets ≤ length (now out) ⌝ }
-    ensures { λ r. ⌜ Counts r (now (out .exit)) ⌝ }
+    ensures { λ r. ⌜ CountsBytes r (now (out .exit)) ⌝ }
 {
     let mut next = at;
     let mut set = from;
@@ -228,23 +264,23 @@ pub struct Shown {
     pub written: bool,
 }
 
-// Puts the head of a block, 168 bytes, at the front.
+// Puts the head of a block, 616 bytes, at the front.
 fn put_head(shown: Shown, span: Span, out: &mut [u8])
     requires { ⌜ span .from ≤ span .to ⌝ }
     requires { ⌜ span .to ≤ maxFileSets ⌝ }
-    requires { ⌜ 168 ≤ length (now out) ⌝ }
+    requires { ⌜ 616 ≤ length (now out) ⌝ }
 {
     let domains = shown.domains;
     let records = shown.records;
-    put_maps(domains, out);
+    put_domains(domains, out);
     put_records(records, out);
     put(
         shorts(span.set, (span.to - span.from) as u16, shown.visited),
         6,
         out,
-        160,
+        608,
     );
-    put(shown.domain as u64, 2, out, 166);
+    put(shown.domain as u64, 2, out, 614);
 }
 
 // Writes a block, and answers whether all of it was written.
@@ -262,12 +298,12 @@ fn show(
     requires { ⌜ span .from ≤ span .to ⌝ }
     requires { ⌜ span .to ≤ maxFileSets ⌝ }
     requires { ⌜ ways ≤ 16 ⌝ }
-    requires { ⌜ 168 + 142 * maxFileSets ≤ length (now out) ⌝ }
+    requires { ⌜ 616 + 142 * maxFileSets ≤ length (now out) ⌝ }
 {
     let from = span.from;
     let to = span.to;
     put_head(shown, span, out);
-    let n = put_rows(ways, from, to, tags, valid, dirty, words, out, 168);
+    let n = put_rows(ways, from, to, tags, valid, dirty, words, out, 616);
     io::write_all(STDOUT_FILENO, &out[..n])
 }
 
@@ -286,7 +322,7 @@ fn held(ways: usize, own: Domain, valid: &[u16]) -> u64 {
 // Puts those of the sixteen domains at the front, and answers how many bytes they have.
 fn put_held(ways: usize, domains: Domains, valid: &[u16], out: &mut [u8]) -> usize
     requires { ⌜ 64 ≤ length (now out) ⌝ }
-    ensures { λ r. ⌜ Counts r (now (out .exit)) ⌝ }
+    ensures { λ r. ⌜ CountsBytes r (now (out .exit)) ⌝ }
 {
     let mut d = 0;
     while d < 16 {
@@ -479,7 +515,7 @@ fn block(
 ) -> Shown
     requires { ⌜ Small (g .sets) (g .ways) ⌝ }
     requires { ⌜ Rows (g .sets) (g .ways) (length (now tags)) (length (now valid)) (length (now dirty)) (length (now words)) ⌝ }
-    requires { ⌜ 168 + 142 * maxFileSets ≤ length (now out) ⌝ }
+    requires { ⌜ 616 + 142 * maxFileSets ≤ length (now out) ⌝ }
 {
     let span = span_of(file, n, i, g);
     let shown = show(g.ways, before, span, tags, valid, dirty, words, out);
@@ -503,7 +539,7 @@ fn run(
 ) -> bool
     requires { ⌜ Small (g .sets) (g .ways) ⌝ }
     requires { ⌜ Rows (g .sets) (g .ways) (length (now tags)) (length (now valid)) (length (now dirty)) (length (now words)) ⌝ }
-    requires { ⌜ 168 + 142 * maxFileSets ≤ length (now out) ⌝ }
+    requires { ⌜ 616 + 142 * maxFileSets ≤ length (now out) ⌝ }
 {
     fresh::fresh_tables(g, tags, valid, dirty, words);
     let mut shown = Shown {
@@ -540,7 +576,7 @@ fn lend(g: Geometry, cells: usize, file: &[u8]) -> bool
     let mut valid = [0u16; MAX_SETS];
     let mut dirty = [0u16; MAX_SETS];
     let mut words = [0u64; MAX_SETS];
-    let mut out = [0u8; 168 + 142 * MAX_SETS];
+    let mut out = [0u8; 616 + 142 * MAX_SETS];
     let sets = g.sets;
     run(
         g,

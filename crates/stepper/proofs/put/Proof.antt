@@ -32,7 +32,7 @@ loop-less : tie.Need-loop-less Inv-loop μ-loop
 loop-less c = omega arith
 
 loop-again : tie.Need-loop-again Inv-loop μ-loop
-loop-again c = length-set (c .before .loop .out) ((c .before .before .args .at) + (c .before .loop .i)) ((c .before .loop .rest) % 256) ∙ (c .before .loop .inv)
+loop-again c = length-set (c .before .loop .out) ((c .before .before .args .at) + (c .before .loop .i)) ((c .before .loop .rest) % 256) ∙ c .before .loop .inv
 
 add-result : tie.Need-add-result Inv-loop μ-loop
 add-result c = omega (arith, (c .before .before .pre))

@@ -3,7 +3,7 @@ use mathlib.Core.Path.{_≡_, refl, _∙_}
 use Prim.Native.Nat.{_-_}
 use native.Mathlib.Omega.{arith}
 use lib.ListN.{length}
-use Rattle.stepper.proofs.RowLaws.{maps-room, held-count}
+use Rattle.stepper.proofs.RowLaws.{domain-room, held-count}
 use Rattle.stepper.proofs.put_held.Statement.{statement}
 use Rattle.stepper.proofs.put_held.Tie as tie
 
@@ -31,7 +31,7 @@ mul-put c = omega arith
 put-requires : tie.Need-put-requires Inv-loop μ-loop
 put-requires c κs =
     let asked = c .before .before .before in
-    maps-room (asked .loop-test .taken) (asked .before .loop .inv) (asked .before .before .before .before .pre)
+    domain-room 4 (asked .loop-test .taken) (asked .before .loop .inv) (asked .before .before .before .before .pre)
 
 add-d : tie.Need-add-d Inv-loop μ-loop
 add-d c = omega arith

@@ -5,7 +5,7 @@ use native.Mathlib.Omega.{arith}
 use lib.ListN.{length}
 use borrow.Author.Count.{falls}
 use borrow.Author.Needs.{needs}
-use Rattle.stepper.proofs.RowLaws.{records-room}
+use Rattle.stepper.proofs.RowLaws.{part-room}
 use Rattle.stepper.proofs.put_records.Statement.{statement}
 use Rattle.stepper.proofs.put_records.Tie as tie
 
@@ -36,7 +36,7 @@ add-put c = omega (arith, c .before .before .before .loop-test .taken)
 put-requires : tie.Need-put-requires Inv-loop μ-loop
 put-requires c κs =
     let asked = c .before .before .before in
-    records-room (asked .loop-test .taken) (asked .before .loop .inv) (asked .before .before .before .pre)
+    part-room 512 3 (asked .loop-test .taken) (asked .before .loop .inv) (asked .before .before .before .pre)
 
 add-c : tie.Need-add-c Inv-loop μ-loop
 add-c c = omega (arith, c .before .before .before .before .before .before .loop-test .taken)

@@ -3,7 +3,7 @@ use mathlib.Core.Path.{_≡_, refl, _∙_}
 use Prim.Native.Nat.{_-_}
 use native.Mathlib.Omega.{arith}
 use lib.ListN.{length}
-use Rattle.stepper.proofs.RowLaws.{tag-room}
+use Rattle.stepper.proofs.RowLaws.{part-room}
 use Rattle.stepper.proofs.put_tags.Statement.{statement}
 use Rattle.stepper.proofs.put_tags.Tie as tie
 
@@ -35,7 +35,7 @@ put-requires : tie.Need-put-requires Inv-loop μ-loop
 put-requires c κs =
     let asked = c .before .before in
     let entry = asked .before .before .before .before in
-    tag-room (entry .args .at) (asked .loop-test .taken) (asked .before .loop .inv) (entry .pre .1)
+    part-room (entry .args .at) 8 (asked .loop-test .taken) (asked .before .loop .inv) (entry .pre .1)
 
 add-w : tie.Need-add-w Inv-loop μ-loop
 add-w c = omega arith
