@@ -1,6 +1,8 @@
 """From the readable form of a trace to the trace: reads a whole text and tells every error in it."""
 from __future__ import annotations
 
+from dataclasses import dataclass
+
 from frontend.source import Line, Source, Token, close_to, unknown
 from frontend.stepline import is_core, is_kind, read_step, unnamed
 from frontend.text import CORE
@@ -15,8 +17,23 @@ _NO_WORD = "domain"  # what somebody may write who writes `core 3`
 _LINES_ARE = f"A line is 'sets N', 'ways N', 'rule NAME' or a step, 'DOMAIN KIND ARGUMENT' or '{CORE} N KIND ARGUMENT'"
 
 
+@dataclass(frozen=True)
+class Assembled:
+    """A trace, and where its header lines and its steps stand in the text: the numbers of their lines."""
+
+    trace: Trace
+    source: Source
+    header_lines: dict[str, int]
+    step_lines: tuple[int, ...]
+
+
 def assemble(name: str, data: bytes) -> Trace:
     """Read a trace text; raise SourceErrors with everything that is wrong in it."""
+    return read(name, data).trace
+
+
+def read(name: str, data: bytes) -> Assembled:
+    """Read a trace text, and give with the trace where all of it stands."""
     return _Assembler(Source(name, data)).run()
 
 
@@ -29,9 +46,10 @@ class _Assembler:
         self.header_lines: dict[str, int] = {}
         self.misspelt: set[str] = set()
         self.steps: list[Step | None] = []
+        self.step_lines: list[int] = []
         self.first_step_line = 0
 
-    def run(self) -> Trace:
+    def run(self) -> Assembled:
         """Read every line and give the trace."""
         self.source.refuse_binary()
         for number in range(1, len(self.source.lines) + 1):
@@ -42,7 +60,7 @@ class _Assembler:
             self._check_header()
         self.source.fail()
         sets, ways, rule = (self.header[word] for word in _HEADERS)
-        return Trace(sets, ways, rule, tuple(self.steps))
+        return Assembled(Trace(sets, ways, rule, tuple(self.steps)), self.source, self.header_lines, tuple(self.step_lines))
 
     def _read(self, line: Line) -> bool:
         """Read a line with something on it; tell whether to go on to the next."""
@@ -75,6 +93,7 @@ class _Assembler:
             line.fault(line.tokens[0], f"this is step {MAX_STEPS + 1:,}; a trace has at most {MAX_STEPS:,} steps")
             return False
         self.steps.append(read_step(line))
+        self.step_lines.append(line.number)
         return True
 
     def _fault_first_word(self, line: Line, first: Token) -> None:

@@ -3,34 +3,63 @@ from __future__ import annotations
 
 import argparse
 
-from frontend import files, isolate, paint, programs, run, streams, struck, text, tracefile, version, words
-from frontend.compare import compare
-from frontend.errors import DIFFERENCE, DONE, BadInput, MachineFailure
+from frontend import check
+from frontend import explain as story
+from frontend import (
+    drawing,
+    files,
+    forewarn,
+    isolate,
+    paint,
+    plot,
+    programs,
+    records,
+    run,
+    state,
+    streams,
+    text,
+    tracefile,
+    version,
+    words,
+)
+from frontend.errors import DIFFERENCE, DONE, BadInput
 from frontend.explain import Explainer
+from frontend.files import Given
+from frontend.logform import Log
 from frontend.numbers import counted
-from frontend.run import Run
+from frontend.telling import Teller, Wanted
+
+_SHARED_NODE = ("refused", (9,))  # the answer whose reason the program `parts` knows
 
 
 def list_trace(args: argparse.Namespace) -> int:
     """Print the listing of a trace, byte for byte as the lister gives it; that of a refused file too."""
-    data = files.read_trace(args.file)
+    given = files.read_trace(args.file)
     programs.need("lister")
-    written, listed = run.listing_of(data)
-    streams.write_out(written)
-    if listed.refused is not None:
-        raise BadInput(run.why_refused(args.file, data, listed.refused))
+    written, listed = run.listing_of(given.data)
+    why = None if listed.refused is None else run.why_refused(args.file, given.data, listed.refused)
+    if not args.json:
+        streams.write_out(written)
+    elif why is None:
+        streams.write_out_lines(records.lines(records.listed(given.title, tracefile.decode(given.data), listed)))
+    else:
+        streams.write_out_lines(records.lines((records.refused_file(given.title, listed.refused, why),)))
+    if why is not None:
+        raise BadInput(why)
     return DONE
 
 
 def assemble(args: argparse.Namespace) -> int:
-    """Turn a trace text into a trace file."""
+    """Turn a trace text into a trace file, and warn of what the cache will refuse whatever comes before it."""
     files.refuse_same(args.file, args.output)
-    trace = files.read_text(args.file)
-    data = tracefile.encode(trace)
+    read = files.read_text(args.file)
+    data = tracefile.encode(read.trace)
     files.write(args.output, data)
+    for warning in forewarn.of(read):
+        streams.tell(warning)
     if args.output != files.STREAM:
-        made = f"{counted(len(trace.steps), 'step')}, {counted(len(data), 'byte')}"
-        streams.tell(f"{files.title(args.output)}: {words.geometry(trace)}, {made}")
+        made = f"{counted(len(read.trace.steps), 'step')}, {counted(len(data), 'byte')}"
+        streams.tell(f"{files.title(args.output)}: {words.geometry(read.trace)}, {made}")
     return DONE
 
 
@@ -43,34 +72,92 @@ def show(args: argparse.Namespace) -> int:
 
 
 def isolate_domain(args: argparse.Namespace) -> int:
-    """Show what a domain sees in the whole run and in its struck-out run, and tell whether there is a difference."""
-    data, name = files.read_trace(args.file), files.title(args.file)
-    run.decode(args.file, data)  # a file that is refused by 10 needs no program
-    programs.need(*programs.NAMES)
-    whole = run.with_own(run.take(args.file, data), args.domain)
-    kept = struck.kept(whole, args.domain, programs.purger(data, args.domain))
-    struck_run = run.with_own(_take_struck(kept), args.domain)
-    found = compare(whole, struck_run, args.domain)
-    streams.write_out_text(isolate.render(name, args.domain, whole, struck_run, found, paint.for_output()))
-    return DIFFERENCE if found.differences() else DONE
-
-
-def _take_struck(kept: tracefile.Trace) -> Run:
-    """Run a struck-out trace, whose geometry the lister has just taken."""
-    try:
-        return run.take("the struck-out trace", tracefile.encode(kept))
-    except BadInput as refused:
-        raise MachineFailure(f"target/bin/lister takes the trace, but {refused}") from refused
+    """Compare what a domain, or each of those in use, sees in the whole run and in its struck-out run."""
+    isolate.check_arguments(args)
+    given = _read(args, *programs.NAMES)
+    whole = run.take(given.name, given.data)
+    if args.all:
+        found = [isolate.isolated(whole, domain) for domain in isolate.in_use(whole)]
+        write = isolate.tell_all if args.json else isolate.render_all
+    else:
+        found = [isolate.isolated(whole, args.domain)]
+        write = isolate.tell_one if args.json else isolate.render_one
+    for each in found:
+        isolate.write_struck(args, each)
+    lines = write(given.title, whole, found, paint.for_output())
+    streams.write_out_lines(records.lines(lines) if args.json else lines)
+    return DIFFERENCE if any(each.found.differences() for each in found) else DONE
 
 
 def explain(args: argparse.Namespace) -> int:
     """Tell a run step by step."""
-    data = files.read_trace(args.file)
-    run.decode(args.file, data)  # a file that is refused by 10 needs no program
-    programs.need("lister", "stepper")
-    story = Explainer(run.take(args.file, data), paint.for_output(), args.all)
-    streams.write_out_text("\n".join(story.lines()) + "\n")
+    given = _read(args, "lister", "stepper")
+    taken, wanted = run.take(given.name, given.data), _wanted(args)
+    if any((answer.word, answer.fields) == _SHARED_NODE for answer in taken.listing.answers):
+        programs.need("parts")
+    steps = Teller(given, taken.trace, wanted).tell(run.moments(taken))
+    if args.json:
+        lines = records.lines(story.tell_records(taken, given.title, steps, wanted.all))
+    else:
+        lines = Explainer(taken, given.title, paint.for_output(), args.all).lines(steps, wanted.all)
+    streams.write_out_lines(lines)
     return DONE
+
+
+def _wanted(args: argparse.Namespace) -> Wanted:
+    """Give the steps that the options of explain ask for."""
+    some = [frozenset(chosen) if chosen else None for chosen in (args.domain, args.set, args.word)]
+    return Wanted(tuple(args.step) if args.step else None, *some)
+
+
+def show_state(args: argparse.Namespace) -> int:
+    """Show all tables, policies and counts as they are after a step."""
+    given = _read(args, "lister", "stepper")
+    lines = state.tell(given, args) if args.json else state.render(given, args)
+    streams.write_out_lines(records.lines(lines) if args.json else lines)
+    return DONE
+
+
+def check_log(args: argparse.Namespace) -> int:
+    """Hold the log of a simulation against the listing of its trace."""
+    check.check_arguments(args)
+    given = files.read_trace(args.file)
+    log = Log(files.title(args.log), files.read_log(args.log), args.format)
+    if not args.skip:
+        log.refuse_strange()
+    programs.need("lister")
+    _, listed = run.listing_of(given.data)
+    if args.format and listed.refused is not None:
+        raise BadInput(run.why_refused(args.file, given.data, listed.refused))
+    found = check.compare(listed, log, args.without_refused)
+    report = check.Report(given, listed, log, found, args.max)
+    streams.write_out_lines(records.lines(report.records()) if args.json else report.lines(paint.for_output()))
+    return DIFFERENCE if found.differences else DONE
+
+
+def plot_trace(args: argparse.Namespace) -> int:
+    """Draw a run as one picture."""
+    files.refuse_same(args.file, args.output)
+    given = _read(args, "lister", "stepper")
+    taken = run.take(given.name, given.data)
+    series = plot.gather(taken.trace.ways, run.moments(taken))
+    geometry = words.geometry(taken.trace)
+    data = drawing.draw(given.title, geometry, series).encode("utf-8")
+    files.write(args.output, data)
+    if args.output != files.STREAM:
+        made = f"{counted(series.steps, 'step')}, {counted(len(series.panels), 'domain')} in use, {counted(len(data), 'byte')}"
+        streams.tell(f"{files.title(args.output)}: {geometry}, {made}")
+    return DONE
+
+
+def _read(args: argparse.Namespace, *needed: str) -> Given:
+    """Read the trace that a command is given, and see that the programs that it needs are there.
+
+    A file that is refused by 10 needs no program."""
+    given = files.read_trace(args.file)
+    run.decode(args.file, given.data)
+    programs.need(*needed)
+    return given
 
 
 def tell_version() -> int:

@@ -4,7 +4,7 @@ from __future__ import annotations
 from collections.abc import Callable
 from dataclasses import dataclass
 
-from frontend import cores, maps, stepper, words
+from frontend import cores, maps, words
 from frontend.errors import MachineFailure
 from frontend.listing import Listing
 from frontend.numbers import counted
@@ -55,8 +55,8 @@ class Comparison:
 
 def compare(whole: Run, struck: Run, domain: int) -> Comparison:
     """Compare what a domain sees in the whole run and in its struck-out run."""
-    own = _pairs(whole, struck, lambda run, place: run.domain(place) == domain, _answer)
-    others = _pairs(whole, struck, lambda run, place: _is_policy(run, place) and run.domain(place) != domain, _verdict)
+    own = _pairs(whole, struck, lambda run, place: run.domains[place] == domain, _answer)
+    others = _pairs(whole, struck, lambda run, place: _is_policy(run, place) and run.domains[place] != domain, _verdict)
     return Comparison(own, others, [ending for part in _AT_THE_END for ending in part(whole, struck, domain)])
 
 
@@ -67,7 +67,7 @@ def _is_policy(run: Run, place: int) -> bool:
 
 def _answer(run: Run, place: int) -> str:
     """Give what is compared of the domain's own step: its answer, and how many ways its lookup visited, if it made one."""
-    answer, visited = str(run.listing.answers[place]), run.blocks[place + 1].visited
+    answer, visited = str(run.listing.answers[place]), run.visited[place]
     return f"{answer}, {counted(visited, 'way')} visited" if visited else answer
 
 
@@ -100,24 +100,21 @@ def _domain_line(listing: Listing, domain: int) -> str:
 
 def _maps(whole: Run, struck: Run, domain: int) -> list[Ending]:
     """Compare the domain's two maps."""
-    last = whole.blocks[-1], struck.blocks[-1]
-    return [
-        Ending((maps.write(last[0].hit[domain]), maps.write(last[1].hit[domain])), "hit map"),
-        Ending((maps.write(last[0].fill[domain]), maps.write(last[1].fill[domain])), "fill map"),
-    ]
+    pairs = (whole.end.hit, struck.end.hit, "hit map"), (whole.end.fill, struck.end.fill, "fill map")
+    return [Ending((maps.both(left[domain]), maps.both(right[domain])), name) for left, right, name in pairs]
 
 
 def _lines(whole: Run, struck: Run, domain: int) -> list[Ending]:
     """Compare the lines in the ways of the domain's hit map, in every set: each that differs, or how many there are."""
-    left, right = (stepper.rows_at_end(run.blocks) for run in (whole, struck))
-    ways = maps.members(whole.blocks[-1].hit[domain])
+    ways = maps.members(whole.end.hit[domain])
+    pairs = ((number, whole.rows[number], struck.rows[number]) for number in sorted(whole.rows))
     endings = [
-        Ending((words.line(left[number], way), words.line(right[number], way)), f"set {number} way {way}")
-        for number in sorted(left)
+        Ending((words.line(left, way), words.line(right, way)), f"set {number} way {way}")
+        for number, left, right in pairs
         for way in ways
     ]
     different = [ending for ending in endings if not ending.same]
-    valid = [f"{run.stream.held[domain]} valid" for run in (whole, struck)]
+    valid = [f"{run.held[domain]} valid" for run in (whole, struck)]
     return different or [Ending((valid[0], valid[1]), "lines in its ways")]
 
 
@@ -134,7 +131,7 @@ def _own_parts(run: Run, domain: int) -> list[str]:
     """Write the domain's own part of each set's replacement word: bits, or the order of its fill ways."""
     if run.trace.rule != LRU:
         return [f"{part:#x}" for part in run.own]
-    ways = maps.members(run.blocks[-1].fill[domain])
+    ways = maps.members(run.end.fill[domain])
     return [words.order(part, ways) or f"{part:#x}" for part in run.own]
 
 
@@ -148,7 +145,7 @@ def _own_in_all(run: Run, parts: list[str]) -> str:
 
 def _records(whole: Run, struck: Run, _domain: int) -> list[Ending]:
     """Compare the core records: each that differs, or how many have a selector that is not zero."""
-    left, right = (run.blocks[-1].records for run in (whole, struck))
+    left, right = whole.end.records, struck.end.records
     written = zip(map(cores.write, left), map(cores.write, right))
     endings = [Ending(seen, f"record of core {core}") for core, seen in enumerate(written)]
     different = [ending for ending in endings if not ending.same]

@@ -1,29 +1,28 @@
 """A run told step by step: the rows before and after as the stepper gives them, and the lister's answers in words."""
 from __future__ import annotations
 
+import functools
 import textwrap
-from collections.abc import Iterator
-from dataclasses import dataclass
+from collections.abc import Iterable, Iterator
+from typing import NamedTuple
 
-from frontend import cores, maps, refusals, words
+from frontend import maps, records, words
 from frontend.listing import Answer
-from frontend.numbers import counted, hexadecimal
+from frontend.numbers import counted
 from frontend.paint import Paint
+from frontend.records import Record
 from frontend.run import Run
 from frontend.stepper import Block, Row
 from frontend.table import columns
-from frontend.tracefile import LRU, NRU, POLICY, Step
+from frontend.telling import Told
 
 MOST_ROWS = 4
 _WIDTH = 100
 _COLOURS = {"refused": "red", "hit": "green"}
-_ONES = {0: ("right at node", "right at nodes"), NRU: ("one at way", "one at ways")}
 _BY_STATE = (6, 7, 8, 9)  # the refusals that depend on what the domains have
-_NO_ROWS = ("refused", "select")  # the answers of steps that change no row
 
 
-@dataclass(frozen=True)
-class _Change:
+class _Change(NamedTuple):
     """A row before and after a step, and the maps before and after it."""
 
     number: int
@@ -32,50 +31,44 @@ class _Change:
 
 
 class Explainer:
-    """Tells a trace step by step."""
+    """Tells a trace step by step, as text. `name` is that of the text whose lines are shown."""
 
-    def __init__(self, run: Run, paint: Paint, show_all: bool) -> None:
-        self._trace, self._listing, self._blocks, self._held = run.trace, run.listing, run.blocks, run.stream.held
-        self._paint = paint
+    def __init__(self, run: Run, name: str, paint: Paint, show_all: bool) -> None:
+        self._run, self._trace, self._name, self._paint = run, run.trace, name, paint
         self._most = run.trace.sets if show_all else MOST_ROWS
-        self._rows = dict(run.blocks[0].rows)
 
-    def lines(self) -> Iterator[str]:
-        """Give the whole story, line by line."""
+    def lines(self, steps: Iterable[Told], whole: bool = True) -> Iterator[str]:
+        """Give the story of some steps, line by line; the end too, if they are all the steps."""
         yield f"{words.geometry(self._trace)}, {counted(len(self._trace.steps), 'step')}"
-        for place, step in enumerate(self._trace.steps):
+        shown = 0
+        for shown, told in enumerate(steps, 1):
             yield ""
-            yield from self._step(place, step)
+            yield from self._step(told)
         yield ""
-        yield from self._end()
+        if whole:
+            yield from self._end()
+        else:
+            yield f"{counted(shown, 'step')} of {len(self._trace.steps):,} shown"
 
-    def _step(self, place: int, step: Step) -> Iterator[str]:
+    def _step(self, told: Told) -> Iterator[str]:
         """Tell one step."""
-        answer = self._listing.answers[place]
-        before, after = self._blocks[place], self._blocks[place + 1]
-        yield self._paint("bold", f"step {place}  {words.step(step)}")
-        if cores.place(step) is not None and after.domain is not None:
-            yield f"  {words.route(step, after.domain)}"
-        yield from self._answer(answer, _said(step, answer, before, after) + self._choice(answer, before, after))
+        place, step, answer, before, after, _ = told.moment
+        located = f" ({words.located(*told.address)})" if told.address is not None else ""
+        yield self._paint("bold", f"step {place}  {words.step(step)}{located}")
+        if told.source is not None:
+            yield "  " + self._paint("dim", f"{self._name}:{told.source[0]}: {told.source[1]}")
+        if told.route is not None:
+            yield f"  {told.route}"
+        yield from self._answer(answer, told.said)
         if after.visited:
             yield f"  The lookup visited {counted(after.visited, 'way')}."
         if answer.word == "policy" or answer.word == "refused" and answer.fields[0] in _BY_STATE:
-            yield from _maps(before, after)
-        if answer.word in _NO_ROWS and not after.rows:
-            return
-        numbers = sorted(after.rows) if step.kind == POLICY else sorted({after.set, *after.rows})
-        yield from self._changes(numbers, before, after)
-        self._rows.update(after.rows)
-
-    def _choice(self, answer: Answer, before: Block, after: Block) -> str:
-        """Say how a victim was found, in a sentence to follow that of the answer; nothing but under NRU."""
-        if answer.word != "evict" or self._trace.rule != NRU:
-            return ""
-        return " " + words.nru_victim(self._rows[after.set].word, _of_domain(before.fill, after.domain))
+            yield from told_maps(before, after)
+        yield from self._changes(told)
 
     def _end(self) -> Iterator[str]:
         """Tell the counts of each domain that has ways, and where the lines went that it filled."""
-        counts = self._listing.counts
+        counts = self._run.listing.counts
         yield "At the end"
         if not counts:
             yield "  no domain has ways"
@@ -85,100 +78,100 @@ class Explainer:
         yield ""
         yield "Lines in and lines out"
         for domain in counts:
-            yield f"  domain {domain}: {words.balance(counts[domain], self._held[domain])}"
+            yield f"  domain {domain}: {words.balance(counts[domain], self._run.held[domain])}"
 
     def _answer(self, answer: Answer, said: str) -> Iterator[str]:
         """Tell the answer, as listed and in words."""
         yield "  " + self._paint(_COLOURS.get(answer.word, "yellow"), str(answer))
         yield from textwrap.wrap(said, _WIDTH, initial_indent="  ", subsequent_indent="  ")
 
-    def _changes(self, numbers: list[int], before: Block, after: Block) -> Iterator[str]:
-        """Tell the rows of some sets before and after a step, but no more than are wanted."""
-        if not numbers:
+    def _changes(self, told: Told) -> Iterator[str]:
+        """Tell the rows of a step's sets before and after it, but no more than are wanted."""
+        _, _, answer, before, after, rows = told.moment
+        if not told.sets and answer.word == "policy":
             yield "  no row changed"
-        for number in numbers[: self._most]:
-            rows = self._rows[number], after.rows.get(number, self._rows[number])
-            yield from self._row(_Change(number, rows, (before, after)))
-        hidden = len(numbers) - self._most
+        for number in told.sets[: self._most]:
+            row = rows[number]
+            yield from self._row(_Change(number, (row, after.rows.get(number, row)), (before, after)))
+        hidden = len(told.sets) - self._most
         if hidden > 0:
             yield f"  {counted(hidden, 'more set')} changed; --all shows them"
 
     def _row(self, change: _Change) -> Iterator[str]:
         """Tell one row before and after a step, way by way."""
+        ways = range(self._trace.ways)
+        lines = [[words.line(row, way) for way in ways] for row in change.rows]
+        owners = (_owners(*(getattr(block, kind) for block in change.blocks), len(ways)) for kind in ("hit", "fill"))
         table = [(" ", f"set {change.number}", "before", "after", "hit map", "fill map")]
-        table += [self._way(change, way) for way in range(self._trace.ways)]
-        texts = [self._word(row) for row in change.rows]
+        table += [(_mark(*pair[1:3]), *pair) for pair in zip(map("way {}".format, ways), *lines, *owners)]
+        texts = [words.replacement_word(self._trace, row.word) for row in change.rows]
         table.append((_mark(*texts), "word", *texts, "", ""))
         head, *body = columns(table)
         yield "  " + self._paint("dim", head)
         for line in body:
             yield "  " + (self._paint("yellow", line) if line.startswith("*") else line)
 
-    def _way(self, change: _Change, way: int) -> tuple[str, ...]:
-        """Tell one way of a row before and after a step, and who has it."""
-        lines = [words.line(row, way) for row in change.rows]
-        hit = _turned(*(_holders(block.hit, way) for block in change.blocks))
-        fill = _turned(*(_holders(block.fill, way) for block in change.blocks))
-        return (_mark(*lines), f"way {way}", *lines, hit, fill)
 
-    def _word(self, row: Row) -> str:
-        """Write a replacement word, and what it holds: an order of the ways, or where its bits are one."""
-        rule, ways = self._trace.rule, self._trace.ways
-        if rule == LRU:
-            text, held = hexadecimal(row.word, ways), words.order(row.word, list(range(ways)))
-        else:
-            text, held = hexadecimal(row.word), _ones(rule, row.word)
-        return f"{text} ({held})" if held else text
+def tell_records(run: Run, name: str, steps: Iterable[Told], whole: bool) -> Iterator[Record]:
+    """Give the same as objects: the trace, a step each, and the end, if they are all the steps."""
+    yield records.head(name, run.trace)
+    yield from map(_record, steps)
+    if whole:
+        yield from (records.domain(number, run.end, run.held) for number in run.listing.counts)
 
 
-def _said(step: Step, answer: Answer, before: Block, after: Block) -> str:
-    """Say what an answer means, by the blocks before and after its step."""
-    if answer.word == "refused":
-        return refusals.of_step(answer.fields[0], step, after.domain)
-    if answer.word == "select":
-        return words.selected(_record(before, step.named), _record(after, step.named))
-    if answer.word == "policy":
-        return words.changed(answer, step)
-    return words.answer(answer, _locked(before, after.domain))
+def _record(told: Told) -> Record:
+    """Give what is told of a step as an object."""
+    place, step, answer, before, after, rows = told.moment
+    source, address = told.source, told.address
+    return {
+        "type": "step",
+        "place": place,
+        "source": source and {"line": source[0], "text": source[1]},
+        "step": records.step(step),
+        "domain": after.domain,
+        "address": address and {"line": hex(address.line), "set": address.set, "tag": hex(address.tag)},
+        "answer": records.answer(answer),
+        "said": told.said,
+        "visited": after.visited,
+        "policies": _policies(before, after),
+        "sets": [
+            {"set": number, "before": records.row(rows[number]), "after": records.row(after.rows.get(number, rows[number]))}
+            for number in told.sets
+        ],
+    }
 
 
-def _record(block: Block, core: int) -> tuple[int, ...]:
-    """Give the selectors of a core; none for a core that has no record."""
-    return block.records[core] if core < len(block.records) else ()
+def _policies(before: Block, after: Block) -> list[Record]:
+    """Give the policies that a step changed."""
+    pairs = zip(zip(before.hit, before.fill), zip(after.hit, after.fill))
+    return [
+        {"domain": domain, "before": records.policy(*then), "after": records.policy(*now)}
+        for domain, (then, now) in enumerate(pairs)
+        if then != now
+    ]
 
 
-def _ones(rule: int, word: int) -> str | None:
-    """Say where the bits of a replacement word are one, if any is."""
-    if not word or rule not in _ONES:
-        return None
-    one, more = _ONES[rule]
-    return f"{one if len(maps.members(word)) == 1 else more} {maps.places(word)}"
-
-
-def _maps(before: Block, after: Block) -> Iterator[str]:
+def told_maps(before: Block, after: Block) -> Iterator[str]:
     """Tell the maps of each domain that has any, before and after a step."""
     told = False
     for domain, then, now in zip(range(len(after.hit)), zip(before.hit, before.fill), zip(after.hit, after.fill)):
         if any(then) or any(now):
-            hit = _turned(maps.write(then[0]), maps.write(now[0]))
-            fill = _turned(maps.write(then[1]), maps.write(now[1]))
+            hit = _turned(maps.both(then[0]), maps.both(now[0]))
+            fill = _turned(maps.both(then[1]), maps.both(now[1]))
             told = True
             yield f"  domain {domain} has hit map {hit} and fill map {fill}"
     if not told:
         yield "  no domain has ways"
 
 
-def _of_domain(domain_maps: tuple[int, ...], domain: int | None) -> int:
-    """Give the map of a domain; empty for what is no domain."""
-    return domain_maps[domain] if domain is not None and domain < len(domain_maps) else 0
+@functools.lru_cache(maxsize=8)
+def _owners(before: tuple[int, ...], after: tuple[int, ...], ways: int) -> list[str]:
+    """Name, for each way, the domains whose map holds it, before and after a step."""
+    return [_turned(owners_of(before, way), owners_of(after, way)) for way in range(ways)]
 
 
-def _locked(block: Block, domain: int | None) -> int:
-    """Give the map of the ways that are in a domain's hit map and not in its fill map."""
-    return _of_domain(block.hit, domain) & ~_of_domain(block.fill, domain)
-
-
-def _holders(domain_maps: tuple[int, ...], way: int) -> str:
+def owners_of(domain_maps: tuple[int, ...], way: int) -> str:
     """Name the domains whose map holds a way."""
     holders = [str(domain) for domain, word in enumerate(domain_maps) if word >> way & 1]
     return "domain " + ",".join(holders) if holders else "-"

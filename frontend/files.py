@@ -6,6 +6,7 @@ import errno
 import os
 import stat
 from collections.abc import Iterator
+from dataclasses import dataclass
 from typing import BinaryIO
 
 from frontend import assembler, source, streams, tracefile
@@ -14,10 +15,33 @@ from frontend.quote import named
 from frontend.replace import replace_file
 
 STREAM = "-"
+TEXT = ".txt"  # how the name of a trace text ends
 LARGEST_TEXT = 1024 * tracefile.MAX_STEPS  # bytes; that is ten times the longest line that `show` writes, for each step
+LARGEST_LOG = 4096 * tracefile.MAX_STEPS  # bytes
 _STANDARD_INPUT = 0
 _STANDARD_OUTPUT = 1
 _NOT_BESIDE = (errno.EACCES, errno.EPERM, errno.EBUSY)  # what a folder says that takes no new file, or does not let the old one go
+
+
+@dataclass(frozen=True)
+class Given:
+    """A trace that somebody names: its name, the trace file, and where that was assembled of a text, the text."""
+
+    name: str
+    data: bytes
+    text: assembler.Assembled | None = None
+
+    @property
+    def title(self) -> str:
+        """Name it in a message."""
+        return title(self.name)
+
+    def source(self, place: int) -> tuple[int, str] | None:
+        """Give the line of the text that a step stands on, and its number; None where there is no text."""
+        if self.text is None:
+            return None
+        number = self.text.step_lines[place]
+        return number, self.text.source.line(number)
 
 
 def title(name: str) -> str:
@@ -31,27 +55,49 @@ def read_file(name: str) -> bytes:
         return streams.read_up_to(stream, tracefile.LARGEST_FILE + 1)
 
 
-def read_text(name: str) -> tracefile.Trace:
+def pieces(name: str, size: int) -> Iterator[bytes]:
+    """Read a file, or standard input for `-`, piece by piece to its end; each piece has that size, but the last is smaller."""
+    with _opened(name) as stream:
+        piece = streams.read_up_to(stream, size)
+        while len(piece) == size:
+            yield piece
+            piece = streams.read_up_to(stream, size)
+        yield piece
+
+
+def read_text(name: str) -> assembler.Assembled:
     """Read a trace text, or standard input for `-`, and assemble it."""
     with _opened(name) as stream:
         data = streams.read_up_to(stream, LARGEST_TEXT + 1)
     return _assemble(name, data)
 
 
-def read_trace(name: str) -> bytes:
+def read_log(name: str) -> bytes:
+    """Read the log of a simulation, or standard input for `-`; raise BadInput for one that is too long."""
+    with _opened(name) as stream:
+        data = streams.read_up_to(stream, LARGEST_LOG + 1)
+    if len(data) > LARGEST_LOG:
+        share = f"{LARGEST_LOG // tracefile.MAX_STEPS:,} for each of the {tracefile.MAX_STEPS:,} steps that a trace can have"
+        hint = "keep those of its lines that are of the cache, with grep for instance"
+        raise BadInput(f"{title(name)} has more than {LARGEST_LOG:,} bytes, the most that a log may have ({share}); {hint}")
+    return data
+
+
+def read_trace(name: str) -> Given:
     """Read a trace file, or a trace text as the trace file that it assembles to.
 
     A text is known by its name or by what it holds. The latter is never in doubt: a number of sets up to 256 has a byte 0,
     so that no trace file which the cache takes could be read as a text."""
-    by_name = name.lower().endswith(".txt")
+    by_name = name.lower().endswith(TEXT)
     with _opened(name) as stream:
         data = streams.read_up_to(stream, tracefile.LARGEST_FILE + 1)
         if not by_name and not source.is_text(data):
-            return data
+            return Given(name, data)
         if len(data) > tracefile.LARGEST_FILE:  # else its end has been read
             data += streams.read_up_to(stream, LARGEST_TEXT + 1 - len(data))
     try:
-        return tracefile.encode(_assemble(name, data))
+        text = _assemble(name, data)
+        return Given(name, tracefile.encode(text.trace), text)
     except source.SourceErrors as errors:
         known = "" if by_name else f"\n{title(name)}: this was taken as a trace text, since it holds text; a trace file is binary"
         raise source.SourceErrors(f"{errors}{known}") from errors
@@ -91,12 +137,12 @@ def _opened(name: str) -> Iterator[BinaryIO]:
         raise MachineFailure(f"cannot read {title(name)}: {reason(error)}") from error
 
 
-def _assemble(name: str, data: bytes) -> tracefile.Trace:
+def _assemble(name: str, data: bytes) -> assembler.Assembled:
     """Assemble a text that is not too long."""
     if len(data) > LARGEST_TEXT:
         share = f"{LARGEST_TEXT // tracefile.MAX_STEPS:,} for each of the {tracefile.MAX_STEPS:,} steps that a trace can have"
         raise BadInput(f"{title(name)} has more than {LARGEST_TEXT:,} bytes, the most that a trace text may have ({share})")
-    return assembler.assemble(title(name), data)
+    return assembler.read(title(name), data)
 
 
 def _hint(name: str, error: OSError) -> str:

@@ -1,41 +1,148 @@
-"""The comparison of a run with its struck-out run, laid out side by side."""
+"""The comparison of runs with their struck-out runs: done for a domain or for each in use, and laid out side by side."""
 from __future__ import annotations
 
-from collections.abc import Callable
+import argparse
+from collections.abc import Callable, Iterator
+from typing import NamedTuple
 
-from frontend import words
-from frontend.compare import Compared, Comparison, Ending, Pair
+from frontend import files, programs, records, run, struck, text, tracefile, words
+from frontend.compare import Compared, Comparison, Ending, Pair, compare
+from frontend.errors import BadInput, MachineFailure
 from frontend.numbers import counted
 from frontend.paint import Paint
+from frontend.records import Record
 from frontend.run import Run
+from frontend.stepper import DOMAINS
 from frontend.table import columns
 from frontend.tracefile import Step, Trace
 
 MOST_TOLD = 5  # differences that are told in a sentence each
 MOST_ENDINGS = 8  # differences at the end that are shown in the table
+DOMAIN = "{domain}"  # what stands in a file's name for the number of a domain
 _MARK = "<- first difference"
 
 
-def render(name: str, domain: int, whole: Run, struck: Run, found: Comparison, paint: Paint) -> str:
-    """Lay a comparison out for a reader."""
-    differences = found.differences()
+class Isolated(NamedTuple):
+    """A domain, the run of its struck-out list, and how that compares with the whole run."""
+
+    domain: int
+    struck: Run
+    found: Comparison
+
+
+def check_arguments(args: argparse.Namespace) -> None:
+    """Refuse arguments that do not go together."""
+    if args.all == (args.domain is not None):
+        raise BadInput("isolate takes either a domain, 0 to 15, or --all, which is each domain in use")
+    if args.all and args.output is not None and DOMAIN not in args.output:
+        raise BadInput(f"with --all, the name behind -o has to have {DOMAIN} in it, in place of which each domain's number stands")
+    if args.output == files.STREAM:
+        raise BadInput("standard output has the comparison; write the struck-out trace to a file")
+    if args.output is not None:
+        files.refuse_same(args.file, args.output)
+
+
+def in_use(whole: Run) -> list[int]:
+    """List the domains that any step belongs to."""
+    return sorted({domain for domain in whole.domains if domain is not None and domain < DOMAINS})
+
+
+def isolated(whole: Run, domain: int) -> Isolated:
+    """Run the struck-out list of a domain, and compare what the domain sees."""
+    whole = run.with_own(whole, domain)
+    kept = struck.kept(whole, domain, programs.purger(tracefile.encode(whole.trace), domain))
+    struck_run = run.with_own(_take_struck(kept), domain)
+    return Isolated(domain, struck_run, compare(whole, struck_run, domain))
+
+
+def _take_struck(kept: Trace) -> Run:
+    """Run a struck-out trace, whose geometry the lister has just taken."""
+    try:
+        return run.take("the struck-out trace", tracefile.encode(kept))
+    except BadInput as refused:
+        raise MachineFailure(f"target/bin/lister takes the trace, but {refused}") from refused
+
+
+def write_struck(args: argparse.Namespace, each: Isolated) -> None:
+    """Write the struck-out trace of a domain where that is asked for: as a text by a name that ends in .txt, else as a trace file."""
+    if args.output is None:
+        return
+    name = args.output.replace(DOMAIN, str(each.domain))
+    files.refuse_same(args.file, name)  # a number in a name may make it another's
+    as_text = name.lower().endswith(files.TEXT)
+    files.write(name, text.show(each.struck.trace).encode("ascii") if as_text else tracefile.encode(each.struck.trace))
+
+
+def render_one(name: str, whole: Run, found: list[Isolated], paint: Paint) -> Iterator[str]:
+    """Lay the comparison of one domain out for a reader."""
+    (domain, struck_run, comparison) = found[0]
+    differences = comparison.differences()
     first = differences[0] if differences else None
-    lines = [
-        f"{name}: {words.geometry(whole.trace)}, {counted(len(whole.trace.steps), 'step')}",
-        _struck_out(domain, whole.trace, struck.trace),
-        "",
-        f"Steps of domain {domain}, their answers, and how many ways their lookups visited",
-        *_pair_table(found.own, _own_step, first, paint),
-        "",
-        f"Domain {domain} and the core records at the end",
-        *_ending_table(found.endings, first, paint),
-        "",
-        "Policy changes of other domains: accepted, or the refusal",
-        *_pair_table(found.others, words.step, first, paint),
-        "",
-        *(paint("red" if differences else "green", line) for line in _conclusion(domain, differences)),
-    ]
-    return "\n".join(lines) + "\n"
+    yield f"{name}: {words.geometry(whole.trace)}, {counted(len(whole.trace.steps), 'step')}"
+    yield _struck_out(domain, whole.trace, struck_run.trace)
+    yield ""
+    yield f"Steps of domain {domain}, their answers, and how many ways their lookups visited"
+    yield from _pair_table(comparison.own, _own_step, first, paint)
+    yield ""
+    yield f"Domain {domain} and the core records at the end"
+    yield from _ending_table(comparison.endings, first, paint)
+    yield ""
+    yield "Policy changes of other domains: accepted, or the refusal"
+    yield from _pair_table(comparison.others, words.step, first, paint)
+    yield ""
+    yield from (paint("red" if differences else "green", line) for line in _conclusion(domain, differences))
+
+
+def render_all(name: str, whole: Run, found: list[Isolated], paint: Paint) -> Iterator[str]:
+    """Lay the verdict on each domain in use out, a line each."""
+    yield f"{name}: {words.geometry(whole.trace)}, {counted(len(whole.trace.steps), 'step')}"
+    for domain, struck_run, comparison in found:
+        differences = comparison.differences()
+        gone = len(whole.trace.steps) - len(struck_run.trace.steps)
+        verdict = f"{counted(len(differences), 'difference')}, the first: {_sentence(differences[0])}" if differences else "no difference"
+        own = f"{counted(len(comparison.own), 'step')} of its own, {gone:,} struck out"
+        yield paint("red" if differences else "green", f"domain {domain}: {own}: {verdict}")
+    if not found:
+        yield "No step belongs to a domain."
+
+
+def tell_one(name: str, whole: Run, found: list[Isolated], _paint: Paint) -> Iterator[Record]:
+    """Give the comparison of one domain as objects: each thing that is compared, and the verdict."""
+    yield records.head(name, whole.trace)
+    comparison = found[0].found
+    for kind, pairs in (("own", comparison.own), ("other", comparison.others)):
+        for pair in pairs:
+            place = {"place": pair.places[0], "struck_place": pair.places[1], "step": records.step(pair.step)}
+            yield {"type": "pair", "of": kind, **place, **_seen(pair)}
+    for ending in comparison.endings:
+        yield {"type": "ending", "of": ending.name, **_seen(ending)}
+    yield from _verdicts(whole, found)
+
+
+def tell_all(name: str, whole: Run, found: list[Isolated], _paint: Paint) -> Iterator[Record]:
+    """Give the verdict on each domain in use as an object."""
+    yield records.head(name, whole.trace)
+    yield from _verdicts(whole, found)
+
+
+def _verdicts(whole: Run, found: list[Isolated]) -> Iterator[Record]:
+    """Give the verdicts on some domains."""
+    for domain, struck_run, comparison in found:
+        differences = comparison.differences()
+        yield {
+            "type": "verdict",
+            "domain": domain,
+            "same": not differences,
+            "differences": len(differences),
+            "first": _sentence(differences[0]) if differences else None,
+            "own_steps": len(comparison.own),
+            "struck_out": len(whole.trace.steps) - len(struck_run.trace.steps),
+        }
+
+
+def _seen(thing: Compared) -> Record:
+    """Give what is seen in both runs."""
+    return {"whole": thing.seen[0], "struck": thing.seen[1], "same": thing.same}
 
 
 def _struck_out(domain: int, whole: Trace, struck: Trace) -> str:

@@ -13,7 +13,17 @@ from frontend.tracefile import Trace
 
 DOMAINS = 16
 FILE_REFUSED = 10  # the number by which a file is refused that has not the length, steps or sets of a trace file
-_FIELDS = {"hit": 1, "fill": 1, "evict": 3, "pass": 0, "flush": 2, "absent": 0, "policy": 2, "select": 3, "refused": 1}
+FIELDS = {
+    "hit": ("way",),
+    "fill": ("way",),
+    "evict": ("way", "tag", "dirty"),
+    "pass": (),
+    "flush": ("way", "dirty"),
+    "absent": (),
+    "policy": ("dropped", "dirty_dropped"),
+    "select": ("cs", "ds", "es"),
+    "refused": ("number",),
+}
 _NUMBER = "(0|[1-9][0-9]{0,19})"
 _REFUSED = re.compile("refused (1|10)")
 _HEADER = re.compile(" ".join([_NUMBER] * 4))
@@ -121,7 +131,7 @@ def _answer(lines: list[str], place: int) -> Answer:
     """Take a step's line apart into its answer."""
     match = _STEP.fullmatch(lines[1 + place])
     fields = tuple(map(int, match[3].split())) if match else ()
-    if not match or match[1] != str(place) or _FIELDS.get(match[2]) != len(fields):
+    if not match or match[1] != str(place) or match[2] not in FIELDS or len(FIELDS[match[2]]) != len(fields):
         raise NotWhole(f"line {place + 2} is {quoted(lines[1 + place])}, and should be the answer to step {place}")
     return Answer(match[2], fields)
 

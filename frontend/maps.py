@@ -44,6 +44,11 @@ def write(word: int) -> str:
     return f"{ALONE}{places(word)}" if len(members(word)) == 1 else places(word)
 
 
+def both(word: int) -> str:
+    """Write a map as the list of its ways, and beside it in hexadecimal, as registers and boot ROMs have it."""
+    return f"{write(word)} ({word:#x})"
+
+
 def parse(text: str) -> int:
     """Read a map from a list of ways, one way, a mask or `none`; raise BadMap for anything else."""
     if text == NONE:

@@ -5,8 +5,11 @@ import contextlib
 import os
 import signal
 import subprocess
+import tempfile
 import time
+from collections.abc import Iterator
 from pathlib import Path
+from typing import BinaryIO
 
 from frontend.build import build
 from frontend.crates import newest_source
@@ -18,6 +21,7 @@ ROOT = Path(__file__).resolve().parent.parent
 BIN = ROOT / "target" / "bin"
 NAMES = ("lister", "purger", "stepper", "parts")
 _MOST_SAID = 2000  # characters of what a program says on standard error that are passed on
+_PIECE = 1 << 16  # bytes of an output that nobody looks at, read at a time
 
 
 def lister(trace: bytes) -> bytes:
@@ -30,9 +34,25 @@ def purger(trace: bytes, domain: int) -> bytes:
     return _run("purger", (str(domain),), trace)
 
 
-def stepper(trace: bytes) -> bytes:
-    """Give the stream of what each step leaves in the maps and rows."""
-    return _run("stepper", (), trace)
+@contextlib.contextmanager
+def stepper(trace: bytes) -> Iterator[BinaryIO]:
+    """Give the stream of what each step leaves in maps, counts and rows, to be read as it comes: it may be a hundred megabytes.
+
+    Where it does not fit its trace, and the stepper did not end well, it is told how it ended."""
+    with tempfile.TemporaryFile() as told, _started("stepper", told) as job:
+        try:
+            with contextlib.suppress(BrokenPipeError), job.stdin:
+                job.stdin.write(trace)
+            yield job.stdout
+        except MachineFailure:
+            _let_end(job)
+            _ended("stepper", job.returncode, _said(told))
+            raise
+        except BaseException:  # whoever read the stream has gone, or Ctrl-C
+            job.kill()
+            raise
+        _let_end(job)
+        _ended("stepper", job.returncode, _said(told))
 
 
 def parts(entries: bytes) -> bytes:
@@ -74,13 +94,44 @@ def _run(name: str, arguments: tuple[str, ...], trace: bytes) -> bytes:
     try:
         done = subprocess.run((BIN / name, *arguments), input=trace, stdout=subprocess.PIPE, stderr=subprocess.PIPE, check=False)
     except OSError as error:
-        raise MachineFailure(f"cannot run target/bin/{name}: {reason(error)}") from error
-    said = cut(done.stderr.decode("utf-8", "replace").strip(), _MOST_SAID)
-    if done.returncode != 0:
-        raise MachineFailure(f"target/bin/{name} {_ending(done.returncode)}" + (f": {said}" if said else ""))
+        raise _cannot_run(name, error) from error
+    _ended(name, done.returncode, done.stderr)
+    return done.stdout
+
+
+def _started(name: str, told: BinaryIO) -> subprocess.Popen:
+    """Start a program whose output is read as it comes; what it says on standard error goes to a file."""
+    try:
+        return subprocess.Popen((BIN / name,), stdin=subprocess.PIPE, stdout=subprocess.PIPE, stderr=told)
+    except OSError as error:
+        raise _cannot_run(name, error) from error
+
+
+def _let_end(job: subprocess.Popen) -> None:
+    """Read what a program still writes, so that it can end, and wait for that."""
+    while job.stdout.read(_PIECE):
+        pass
+    job.wait()
+
+
+def _said(told: BinaryIO) -> bytes:
+    """Give what a program said on standard error."""
+    told.seek(0)
+    return told.read()
+
+
+def _ended(name: str, status: int, told: bytes) -> None:
+    """Pass on what a program said on standard error; raise MachineFailure if it did not end well."""
+    said = cut(told.decode("utf-8", "replace").strip(), _MOST_SAID)
+    if status != 0:
+        raise MachineFailure(f"target/bin/{name} {_ending(status)}" + (f": {said}" if said else ""))
     if said:
         tell(f"dipperlock: target/bin/{name} says: {said}")
-    return done.stdout
+
+
+def _cannot_run(name: str, error: OSError) -> MachineFailure:
+    """Make the error of a program that could not be started."""
+    return MachineFailure(f"cannot run target/bin/{name}: {reason(error)}")
 
 
 def _ending(status: int) -> str:

@@ -1,13 +1,14 @@
-"""Why something is refused by a number, and what would be right."""
+"""Why something is refused by a number, and what would be right, whatever the step; `culprits` says what is to blame in one."""
 from __future__ import annotations
 
 from dataclasses import dataclass
 
 from frontend import cores
-from frontend.tracefile import SELECT, SETS_LIMIT, Step
+from frontend.tracefile import SETS_LIMIT
 
-_LAST_CORE = cores.LENT - 1
-_LAST_DOMAIN = 15
+LARGEST_COUNT = 4_294_967_295
+LAST_CORE = cores.LENT - 1
+LAST_DOMAIN = 15
 
 
 @dataclass(frozen=True)
@@ -22,7 +23,7 @@ class Refusal:
         return f"{self.why} {self.fix}"
 
 
-_REMOVE = "Remove the domain by a policy with two empty maps, which zeroes its counts, and give it its maps anew."
+REMOVE = "Remove the domain by a policy with two empty maps, which zeroes its counts, and give it its maps anew."
 
 REFUSALS = {
     1: Refusal(
@@ -53,11 +54,11 @@ REFUSALS = {
     7: Refusal(
         "One of the domain's seven counts is 4,294,967,295 and cannot rise,"
         " or the lines that a policy change would drop would carry its count of dropped lines past that.",
-        _REMOVE,
+        REMOVE,
     ),
     8: Refusal(
         "The hit map shares a way with another domain's hit map.",
-        "Leave the shared way out, or take it from the other domain by a policy step first.",
+        "Leave what is shared out, or take it from the other domain by a policy step first.",
     ),
     9: Refusal(
         "A node of the tree would be free for this domain and for another one,"
@@ -72,7 +73,7 @@ REFUSALS = {
     ),
     11: Refusal(
         "The core is not in the list, or the list has more than 32 records.",
-        f"Lend at most {cores.LENT} records, and name a core that has one: with the lister, 0 to {_LAST_CORE}.",
+        f"Lend at most {cores.LENT} records, and name a core that has one: with the lister, 0 to {LAST_CORE}.",
     ),
 }
 
@@ -80,55 +81,3 @@ REFUSALS = {
 def of_number(number: int) -> str:
     """Say why something is refused by a number, and the fix."""
     return str(REFUSALS.get(number, f"Number {number} is not one of the documents'."))
-
-
-def of_step(number: int, step: Step, domain: int | None) -> str:
-    """Say why a step is refused, and the fix; of a core's step, with the core and the domain that it was taken for."""
-    if not step.by_core:
-        return of_number(number)
-    special = _of_select(step) if step.kind == SELECT else _of_access(step, domain)
-    return str(special.get(number, of_number(number)))
-
-
-def _of_select(step: Step) -> dict[int, Refusal]:
-    """Give what is special to a write of selectors."""
-    named = zip(cores.SELECTORS, cores.lowest(step.argument))
-    high = [f"{name} would be {selector}" for name, selector in named if selector > _LAST_DOMAIN]
-    wrong = " and ".join(high) or "A selector would be 16 or more"
-    return {
-        3: Refusal(
-            f"{wrong}, and a selector names a domain, 0 to {_LAST_DOMAIN}.",
-            f"Name a domain from 0 to {_LAST_DOMAIN} by each of the three.",
-        ),
-        5: Refusal(
-            "A byte of the argument other than the three selectors is not zero.",
-            "Give CS, DS and ES in the three low bytes, CS in the lowest, and leave the other five zero.",
-        ),
-        11: _not_listed(step),
-    }
-
-
-def _of_access(step: Step, domain: int | None) -> dict[int, Refusal]:
-    """Give what is special to an access or a flush by a core."""
-    if domain is None:
-        return {11: _not_listed(step)}
-    selector = f"{cores.SELECTORS[cores.place(step)]} of core {step.named}"
-    return {
-        3: Refusal(
-            f"{selector} is {domain}, and a selector names a domain, 0 to {_LAST_DOMAIN}.",
-            f"Write the selectors of core {step.named} anew, each from 0 to {_LAST_DOMAIN}.",
-        ),
-        6: Refusal(
-            f"The hit map of domain {domain} is empty: it has no ways.",
-            f"Give it ways by a policy step first, or let {selector} name a domain that has ways.",
-        ),
-        7: Refusal(f"One of the seven counts of domain {domain} is 4,294,967,295 and cannot rise.", _REMOVE),
-    }
-
-
-def _not_listed(step: Step) -> Refusal:
-    """Say that a core has no record."""
-    return Refusal(
-        f"Core {step.named} is not in the list: the lister lends records for cores 0 to {_LAST_CORE}.",
-        f"Name a core from 0 to {_LAST_CORE}.",
-    )

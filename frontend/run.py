@@ -1,12 +1,14 @@
 """A trace run: what the file says, and what the lister and the stepper say of it."""
 from __future__ import annotations
 
+from collections.abc import Iterator
 from dataclasses import dataclass, replace
+from typing import BinaryIO, NamedTuple
 
 from frontend import files, listing, parts, programs, refusals, source, stepper, tracefile, words
 from frontend.errors import BadInput, MachineFailure
-from frontend.listing import Listing
-from frontend.stepper import Block, Stream
+from frontend.listing import Answer, Listing
+from frontend.stepper import Block, Rows
 from frontend.tracefile import Step, Trace
 
 _GEOMETRY, _FILE = 1, 10  # the numbers by which a whole file is refused
@@ -15,21 +17,30 @@ _UTF_16 = (b"\xff\xfe", b"\xfe\xff")  # how a text begins that two bytes write a
 
 @dataclass(frozen=True)
 class Run:
-    """A trace, its listing, its stepper stream, and a domain's own part of each set's word, where that was asked for."""
+    """A trace, its listing, and what the stepper says: whom each step was taken for, how many ways its lookup visited, and the end.
+
+    The end is the last block, every row, and the lines that each domain holds. `own` is a domain's own part of each
+    set's word, where that was asked for."""
 
     trace: Trace
     listing: Listing
-    stream: Stream
+    domains: tuple[int | None, ...]
+    visited: tuple[int, ...]
+    end: Block
+    rows: Rows
+    held: tuple[int, ...]
     own: tuple[int, ...] = ()
 
-    @property
-    def blocks(self) -> list[Block]:
-        """Give the fresh block, and one for each step."""
-        return self.stream.blocks
 
-    def domain(self, place: int) -> int | None:
-        """Give the domain that a step belongs to: the one that the cache took it for at that moment, if any."""
-        return self.blocks[place + 1].domain
+class Moment(NamedTuple):
+    """A step of a run: its place, its answer, what stood before it and after it, and all rows before it, until the next step."""
+
+    place: int
+    step: Step
+    answer: Answer
+    before: Block
+    after: Block
+    rows: Rows
 
 
 def take(name: str, data: bytes) -> Run:
@@ -38,17 +49,47 @@ def take(name: str, data: bytes) -> Run:
     _, listed = listing_of(data)
     if listed.refused is not None:
         raise BadInput(why_refused(name, data, listed.refused))
-    taken = Run(trace, listed, stepper.parse(programs.stepper(data), trace))
-    _check_balance(taken)
+    with programs.stepper(data) as stream:
+        taken = fold(trace, listed, stream)
+    _check_counts(taken)
     return taken
+
+
+def fold(trace: Trace, listed: Listing, stream: BinaryIO) -> Run:
+    """Read a whole stream, and keep of it what does not grow with the number of rows that steps changed."""
+    reader = stepper.Reader(stream, trace)
+    blocks = reader.blocks()
+    block = next(blocks)
+    rows, domains, visited = block.rows.copy(), [], []
+    for block in blocks:
+        rows.take(block.rows)
+        domains.append(block.domain)
+        visited.append(block.visited)
+    return Run(trace, listed, tuple(domains), tuple(visited), block, rows, reader.held)
+
+
+def moments(taken: Run) -> Iterator[Moment]:
+    """Run the stepper once more, on a trace whose stream was found whole, and give every step as it comes."""
+    with programs.stepper(tracefile.encode(taken.trace)) as stream:
+        yield from walk(taken.trace, taken.listing, stream)
+
+
+def walk(trace: Trace, listed: Listing, stream: BinaryIO) -> Iterator[Moment]:
+    """Give the steps of a stream one by one. All rows are kept once, as they stand before the step."""
+    blocks = stepper.Reader(stream, trace).blocks()
+    before = next(blocks)
+    rows = before.rows.copy()
+    for place, after in enumerate(blocks):
+        yield Moment(place, trace.steps[place], listed.answers[place], before, after, rows)
+        rows.take(after.rows)
+        before = after
 
 
 def with_own(run: Run, domain: int) -> Run:
     """Add a domain's own part of each set's replacement word at the end; which part that is, is the rule's matter, and a program says it."""
-    rows, fill = stepper.rows_at_end(run.blocks), run.blocks[-1].fill[domain]
-    entries = tuple(Step(fill & 0xFF, fill >> 8, rows[number].word) for number in sorted(rows))
-    asked = tracefile.encode(replace(run.trace, steps=entries))
-    return replace(run, own=parts.parse(programs.parts(asked), len(entries)))
+    fill = run.end.fill[domain]
+    asked = [(fill, run.rows[number].word) for number in sorted(run.rows)]
+    return replace(run, own=parts.of(run.trace, asked))
 
 
 def listing_of(data: bytes) -> tuple[bytes, Listing]:
@@ -77,16 +118,19 @@ def why_refused(name: str, data: bytes, number: int) -> str:
     return f"{refused}. {refusals.of_number(number)}"
 
 
-def _check_balance(taken: Run) -> None:
-    """Hold the lines that came in for each domain against those that went out and those that it holds.
+def _check_counts(taken: Run) -> None:
+    """Hold each domain line against the counts at the end of the stream, and the lines that came in against those out and held.
 
-    That they are equal is a theorem; where they are not, a program is at fault."""
+    That both are equal is a theorem; where they are not, a program is at fault."""
     for domain, counts in taken.listing.counts.items():
-        held = taken.stream.held[domain]
+        held = taken.held[domain]
         out = counts.evicted + counts.flushed + counts.dropped + held
         if counts.fills != out:
             wrong = f"'{words.balance(counts, held)}' should hold, and the right side is {out:,}"
             raise MachineFailure(f"target/bin/lister and target/bin/stepper do not agree on the lines of domain {domain}: {wrong}")
+        if counts != taken.end.counts[domain]:
+            said = f"'{words.counts(counts)}' and '{words.counts(taken.end.counts[domain])}'"
+            raise MachineFailure(f"target/bin/lister and target/bin/stepper do not agree on the counts of domain {domain}: {said}")
 
 
 def _hint(data: bytes) -> str:

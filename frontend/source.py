@@ -9,12 +9,13 @@ from dataclasses import dataclass
 
 from frontend import numbers
 from frontend.errors import BadInput
-from frontend.quote import quoted
+from frontend.quote import cut, quoted
 
 MOST_SHOWN = 20
 MOST_FOUND = 1000  # errors after which no more are looked for: such a text is no trace text at all
 _LONGEST_KNOWN = 20  # characters; a longer word was not meant to be one of ours
-_WINDOW = 100  # characters of a source line that are shown
+_WINDOW = 100  # characters of a source line that are shown with an error
+_LONGEST_LINE = 400  # characters of a source line that are shown with its step
 _WORD = re.compile(r"\S+")
 _BYTE_ORDER = b"\xef\xbb\xbf"
 _CONTROLS = bytes(set(range(32)) - set(b"\t\n\v\f\r")) + b"\x7f"
@@ -63,6 +64,17 @@ class Source:
             self.add(number, column, 1, f"byte {raw[error.start]:#04x} is not UTF-8 text; save the file as UTF-8")
             return raw.decode("utf-8", "replace")
 
+    def line(self, number: int) -> str:
+        """Give a line as it is written, but for what a terminal would not show as it is, and for what is beyond any sense."""
+        return _shown(cut(self.lines[number - 1].strip(), _LONGEST_LINE))
+
+    def warn(self, line: int, message: str) -> str:
+        """Lay out a warning about a whole line, which is told and does not make the text wrong."""
+        text = self.lines[line - 1]
+        code = text.partition("#")[0].rstrip()
+        column = len(code) - len(code.lstrip()) + 1
+        return self._tell(Problem(line, column, max(1, len(code.strip())), f"warning: {message}"))
+
     def refuse_binary(self) -> None:
         """Raise a single error for a file that is no text."""
         for number, text in enumerate(self.lines, 1):
@@ -99,7 +111,7 @@ class Source:
             return head
         text = self.lines[problem.line - 1]
         start = max(0, problem.column - 1 - _WINDOW // 2) if len(text) > _WINDOW else 0
-        shown = "".join(c if c.isprintable() or c == "\t" else "?" for c in text[start : start + _WINDOW])
+        shown = _shown(text[start : start + _WINDOW])
         lead = "".join("\t" if c == "\t" else " " for c in shown[: problem.column - 1 - start])
         width = max(1, min(problem.width, len(shown) - len(lead)))
         return f"{head}\n    {shown}\n    {lead}{'^' * width}"
@@ -171,6 +183,11 @@ def is_text(data: bytes) -> bool:
     except UnicodeDecodeError:
         return False
     return True
+
+
+def _shown(text: str) -> str:
+    """Put a question mark for each character that a terminal would not show as it is."""
+    return "".join(c if c.isprintable() or c == "\t" else "?" for c in text)
 
 
 def _raw_lines(data: bytes) -> list[bytes]:

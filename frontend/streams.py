@@ -6,9 +6,12 @@ from __future__ import annotations
 
 import select
 import sys
+from collections.abc import Iterable
 from typing import BinaryIO
 
 from frontend.errors import MachineFailure, ReaderGone, reason
+
+_MANY = 1 << 16  # characters of lines that are written together
 
 
 class Cut(OSError):
@@ -77,6 +80,19 @@ def write_out(data: bytes) -> None:
 def write_out_text(text: str) -> None:
     """Write a text to standard output."""
     write_out(text.encode("utf-8", "surrogateescape"))
+
+
+def write_out_lines(lines: Iterable[str]) -> None:
+    """Write lines to standard output as they come, many at a time."""
+    waiting, size = [], 0
+    for line in lines:
+        waiting.append(line)
+        size += len(line)
+        if size >= _MANY:
+            write_out_text("\n".join(waiting) + "\n")
+            waiting, size = [], 0
+    if waiting:
+        write_out_text("\n".join(waiting) + "\n")
 
 
 def tell(text: str, end: str = "\n") -> None:

@@ -13,9 +13,8 @@ from frontend.numbers import counted
 from frontend.quote import quoted
 from frontend.run import Run
 from frontend.text import show_step
-from frontend.tracefile import CORE_KINDS, KINDS, POLICY, SELECT, Step, Trace
+from frontend.tracefile import ACCESSES, Step, Trace
 
-_STRUCK_KINDS = {*KINDS, *CORE_KINDS} - {POLICY, SELECT}  # accesses and flushes
 _NUMBER = "(0|[1-9][0-9]{0,19})"
 _LINE = re.compile(" ".join([_NUMBER] * 3))
 
@@ -32,7 +31,7 @@ def kept(whole: Run, domain: int, lines: bytes) -> Trace:
 
 def _is_struck(whole: Run, domain: int, place: int) -> bool:
     """Tell whether a step is an access or a flush that belongs to another domain; one that belongs to none stays."""
-    return whole.trace.steps[place].kind in _STRUCK_KINDS and whole.domain(place) not in (domain, None)
+    return whole.trace.steps[place].kind in ACCESSES and whole.domains[place] not in (domain, None)
 
 
 def _steps(lines: bytes, domain: int) -> tuple[Step, ...]:

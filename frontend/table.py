@@ -4,12 +4,8 @@ from __future__ import annotations
 
 def columns(rows: list[tuple[str, ...]], right: tuple[int, ...] = ()) -> list[str]:
     """Lay rows out in columns two spaces apart; the columns named by `right` are set flush right."""
-    widths = [max(map(len, cells)) for cells in zip(*rows)]
-    lines = []
-    for row in rows:
-        cells = (
-            cell.rjust(width) if place in right else cell.ljust(width)
-            for place, (cell, width) in enumerate(zip(row, widths))
-        )
-        lines.append("  ".join(cells).rstrip())
-    return lines
+    padded = []
+    for place, cells in enumerate(zip(*rows)):
+        width = max(map(len, cells))
+        padded.append([cell.rjust(width) for cell in cells] if place in right else [cell.ljust(width) for cell in cells])
+    return ["  ".join(cells).rstrip() for cells in zip(*padded)]

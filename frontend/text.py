@@ -11,8 +11,16 @@ CORE = "core"  # what stands before the number of a core; a number alone is a do
 def show(trace: Trace) -> str:
     """Write a trace as its canonical text, which assembles to the same trace."""
     header = (f"sets {trace.sets}", f"ways {trace.ways}", f"rule {RULES.get(trace.rule, trace.rule)}", "")
-    lines = (*header, *map(show_step, trace.steps))
+    lines = (*header, *map(_show_line, trace.steps))
     return "\n".join(lines).rstrip("\n") + "\n"
+
+
+def _show_line(step: Step) -> str:
+    """Write one step as a line of a text, behind a policy's maps the same in hexadecimal."""
+    line = show_step(step)
+    if step.kind != POLICY or step.argument >> 2 * maps.WAYS:
+        return line
+    return f"{line}  # {step.argument & maps.LARGEST:#x} {step.argument >> maps.WAYS:#x}"
 
 
 def show_step(step: Step) -> str:

@@ -12,6 +12,7 @@ _KINDS = {**KINDS, **CORE_KINDS}
 _VERBS = {"fetch": "fetches", "load": "loads", "store": "stores", "flush": "flushes"}
 _PLACE = 4  # bits of a way's place in an order
 _COUNTS = tuple(name.replace("_", " ") for name in Counts._fields)
+_ONES = {0: ("right at node", "right at nodes"), NRU: ("one at way", "one at ways")}
 _LOCKED = {"hit": "Its line is locked", "flush": "It was locked"}
 
 
@@ -40,7 +41,7 @@ def _policy_deed(argument: int) -> str:
     if argument >> 2 * maps.WAYS:
         return f"asks for the policy of argument {hexadecimal(argument)}"
     hit, fill = argument & maps.LARGEST, argument >> maps.WAYS
-    return f"asks for hit map {maps.write(hit)} and fill map {maps.write(fill)}"
+    return f"asks for hit map {maps.both(hit)} and fill map {maps.both(fill)}"
 
 
 def _select_deed(argument: int) -> str:
@@ -54,6 +55,11 @@ def _select_deed(argument: int) -> str:
 def step(taken: Step) -> str:
     """Say which domain or core a step names and what it does."""
     return f"{'core' if taken.by_core else 'domain'} {taken.named} {deed(taken)}"
+
+
+def located(line_number: int, place: int, tag: int) -> str:
+    """Say where an address lies, to follow it."""
+    return f"line {line_number}, set {place}, tag {tag}"
 
 
 def route(taken: Step, domain: int) -> str:
@@ -86,6 +92,23 @@ def order(word: int, ways: list[int]) -> str | None:
     if sorted(held) != ways or word >> _PLACE * len(ways):
         return None
     return " ".join(("oldest first", *map(str, held))) if held else maps.NONE
+
+
+def replacement_word(trace: Trace, word: int) -> str:
+    """Write a replacement word, and what it holds by the rule of its trace: an order of the ways, or where its bits are one."""
+    if trace.rule == LRU:
+        text, held = hexadecimal(word, trace.ways), order(word, list(range(trace.ways)))
+    else:
+        text, held = hexadecimal(word), _ones(trace.rule, word)
+    return f"{text} ({held})" if held else text
+
+
+def _ones(rule: int, word: int) -> str | None:
+    """Say where the bits of a replacement word are one, if any is."""
+    if not word or rule not in _ONES:
+        return None
+    one, more = _ONES[rule]
+    return f"{one if len(maps.members(word)) == 1 else more} {maps.places(word)}"
 
 
 def counts(values: Counts) -> str:

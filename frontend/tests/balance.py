@@ -4,7 +4,7 @@ from __future__ import annotations
 import struct
 
 from frontend.stepper import Row
-from frontend.tests.helpers import block, held
+from frontend.tests.helpers import block, held, with_counts
 
 _STEPS = (
     (0, 16, 0x0007_0007),
@@ -56,24 +56,23 @@ _LEFT = {**_TWO, 1: (0b1000, 0b1000)}
 _FRESH = _set(0, 0, 0, 0, 0, 0, 0)
 _FILLED = _set(0b0111, 0b0100, 0b011, 2, 1, 0, 0)
 _REMOVED = _set(0b0011, 0, 0, 2, 4, 0, 0)
-STREAM = b"".join(
-    (
-        block({}, 0, _FRESH),
-        block(_THREE, 0, _FRESH, 0, 0),
-        block(_THREE, 0, _set(0b0100, 0b0100, 0b000, 0, 0, 0, 0), 3, 0),  # node 2 is not free, and stays
-        block(_THREE, 0, _set(0b0110, 0b0100, 0b001, 0, 1, 0, 0), 3, 0),
-        block(_THREE, 0, _FILLED, 3, 0),
-        block(_FULL, 0, _FILLED, 0, 1),
-        block(_FULL, 0, _set(0b1111, 0b1100, 0b011, 2, 1, 0, 0), 1, 1),
-        block(_FULL, 0, _set(0b1111, 0b1000, 0b010, 2, 1, 3, 0), 3, 0),
-        block(_FULL, 0, _set(0b1101, 0b1000, 0b010, 2, 1, 3, 0), 2, 0),
-        block(_FULL, 0, _set(0b1111, 0b1000, 0b001, 2, 4, 3, 0), 3, 0),
-        block(_LEFT, 0, _set(0b1011, 0b1000, 0, 2, 4, 0, 0), 0, 0),  # node 0 is free no more, and becomes zero
-        block(_TWO, 0, _REMOVED, 0, 1),
-        block(_LEFT, 0, _REMOVED, 0, 1),
-        block(_LEFT, 0, _set(0b1011, 0, 0, 2, 4, 0, 1), 1, 1),
-        held({0: 2, 1: 1}),
-    )
+STREAM = with_counts(
+    LISTING,
+    block({}, 0, _FRESH),
+    block(_THREE, 0, _FRESH, 0, 0),
+    block(_THREE, 0, _set(0b0100, 0b0100, 0b000, 0, 0, 0, 0), 3, 0),  # node 2 is not free, and stays
+    block(_THREE, 0, _set(0b0110, 0b0100, 0b001, 0, 1, 0, 0), 3, 0),
+    block(_THREE, 0, _FILLED, 3, 0),
+    block(_FULL, 0, _FILLED, 0, 1),
+    block(_FULL, 0, _set(0b1111, 0b1100, 0b011, 2, 1, 0, 0), 1, 1),
+    block(_FULL, 0, _set(0b1111, 0b1000, 0b010, 2, 1, 3, 0), 3, 0),
+    block(_FULL, 0, _set(0b1101, 0b1000, 0b010, 2, 1, 3, 0), 2, 0),
+    block(_FULL, 0, _set(0b1111, 0b1000, 0b001, 2, 4, 3, 0), 3, 0),
+    block(_LEFT, 0, _set(0b1011, 0b1000, 0, 2, 4, 0, 0), 0, 0),  # node 0 is free no more, and becomes zero
+    block(_TWO, 0, _REMOVED, 0, 1),
+    block(_LEFT, 0, _REMOVED, 0, 1),
+    block(_LEFT, 0, _set(0b1011, 0, 0, 2, 4, 0, 1), 1, 1),
+    held({0: 2, 1: 1}),
 )
 BALANCES = {
     0: "fills 5 = evicted 1 + flushed 1 + dropped 1 + held 2",

@@ -4,7 +4,7 @@ from __future__ import annotations
 import struct
 
 from frontend.stepper import Row
-from frontend.tests.helpers import block, held
+from frontend.tests.helpers import block, held, with_counts
 
 _CODES = bytes((0, 16, 1, 16, 0, 2, 0, 1, 1, 1, 0, 1, 0, 3, 2, 1, 0, 1))
 _ARGUMENTS = (0x0003_0003, 0x000C_000C, 0, 64, 0, 128, 64, 0, 128)
@@ -29,18 +29,17 @@ _FIRST = {0: (3, 3)}
 _BOTH = {0: (3, 3), 1: (12, 12)}
 _FRESH = {0: Row(0, 0, 0, (0, 0, 0, 0))}
 _LAST = {0: Row(0b1010, 0, 0b000, (1, 2, 0, 0))}
-STREAM = b"".join(
-    (
-        block({}, 0, _FRESH),
-        block(_FIRST, 0, _FRESH, 0, 0),
-        block(_BOTH, 0, _FRESH, 0, 1),
-        block(_BOTH, 0, {0: Row(0b0010, 0b0010, 0b000, (0, 0, 0, 0))}, 2, 0),
-        block(_BOTH, 0, {0: Row(0b0011, 0b0010, 0b010, (1, 0, 0, 0))}, 2, 0),
-        block(_BOTH, 0, {0: Row(0b1011, 0b0010, 0b010, (1, 0, 0, 0))}, 2, 1),
-        block(_BOTH, 0, {0: Row(0b1011, 0, 0b000, (1, 2, 0, 0))}, 2, 0),
-        block(_BOTH, 0, _LAST, 1, 0),
-        block(_BOTH, 0, _LAST, 0, 2),
-        block(_BOTH, 0, _LAST, 2, 0),
-        held({0: 1, 1: 1}),
-    )
+STREAM = with_counts(
+    LISTING,
+    block({}, 0, _FRESH),
+    block(_FIRST, 0, _FRESH, 0, 0),
+    block(_BOTH, 0, _FRESH, 0, 1),
+    block(_BOTH, 0, {0: Row(0b0010, 0b0010, 0b000, (0, 0, 0, 0))}, 2, 0),
+    block(_BOTH, 0, {0: Row(0b0011, 0b0010, 0b010, (1, 0, 0, 0))}, 2, 0),
+    block(_BOTH, 0, {0: Row(0b1011, 0b0010, 0b010, (1, 0, 0, 0))}, 2, 1),
+    block(_BOTH, 0, {0: Row(0b1011, 0, 0b000, (1, 2, 0, 0))}, 2, 0),
+    block(_BOTH, 0, _LAST, 1, 0),
+    block(_BOTH, 0, _LAST, 0, 2),
+    block(_BOTH, 0, _LAST, 2, 0),
+    held({0: 1, 1: 1}),
 )

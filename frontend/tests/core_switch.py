@@ -4,7 +4,7 @@ from __future__ import annotations
 import struct
 
 from frontend.stepper import Row
-from frontend.tests.helpers import block, held
+from frontend.tests.helpers import block, held, with_counts
 
 _STEPS = (
     (1, 16, 0x0003_0003),
@@ -67,29 +67,28 @@ def _set(valid: int, dirty: int, word: int, *tags: int) -> dict[int, Row]:
 _FRESH = _set(0, 0, 0, 0, 0, 0, 0)
 _STORED = _set(0b0010, 0b0010, 0b000, 0, 1, 0, 0)
 _LATER = _set(0b1101, 0b1100, 0b010, 2, 1, 2, 1)
-STREAM = b"".join(
-    (
-        block({}, 0, _FRESH),
-        block(_FIRST, 0, _FRESH, 0, 1),
-        block(_BOTH, 0, _FRESH, 0, 2),
-        block(_BOTH, 0, _FRESH, 0, 0),  # refused 6
-        block(_BOTH, 0, {}, 0, _NONE, _ONE),
-        block(_BOTH, 0, _STORED, 2, 1, _ONE),
-        block(_BOTH, 0, _STORED, 2, 1, _ONE),
-        block(_BOTH, 0, {}, 0, _NONE, _TWO),
-        block(_BOTH, 0, _set(0b1010, 0b0010, 0b000, 0, 1, 0, 1), 2, 2, _TWO),
-        block(_BOTH, 0, _set(0b1010, 0b1010, 0b000, 0, 1, 0, 1), 2, 2, _TWO),
-        block(_BOTH, 0, {}, 0, _NONE, _SPLIT),
-        block(_BOTH, 0, _set(0b1011, 0b1010, 0b010, 2, 1, 0, 1), 2, 1, _SPLIT),
-        block(_BOTH, 0, _set(0b1111, 0b1110, 0b110, 2, 1, 2, 1), 2, 2, _SPLIT),
-        block(_BOTH, 0, _set(0b1101, 0b1100, 0b110, 2, 1, 2, 1), 2, 1, _SPLIT),
-        block(_BOTH, 0, _LATER, 2, 2, _SPLIT),
-        block(_BOTH, 0, _LATER, 1, 1, _SPLIT),
-        block(_BOTH, 0, _LATER, 0, _NONE, _SPLIT),  # refused 11
-        block(_BOTH, 0, {}, 0, _NONE, _SPLIT),  # refused 3
-        block(_BOTH, 0, _set(0b1101, 0b1100, 0b110, 2, 1, 3, 1), 2, 2, _SPLIT),
-        held({1: 1, 2: 2}),
-    )
+STREAM = with_counts(
+    LISTING,
+    block({}, 0, _FRESH),
+    block(_FIRST, 0, _FRESH, 0, 1),
+    block(_BOTH, 0, _FRESH, 0, 2),
+    block(_BOTH, 0, _FRESH, 0, 0),  # refused 6
+    block(_BOTH, 0, {}, 0, _NONE, _ONE),
+    block(_BOTH, 0, _STORED, 2, 1, _ONE),
+    block(_BOTH, 0, _STORED, 2, 1, _ONE),
+    block(_BOTH, 0, {}, 0, _NONE, _TWO),
+    block(_BOTH, 0, _set(0b1010, 0b0010, 0b000, 0, 1, 0, 1), 2, 2, _TWO),
+    block(_BOTH, 0, _set(0b1010, 0b1010, 0b000, 0, 1, 0, 1), 2, 2, _TWO),
+    block(_BOTH, 0, {}, 0, _NONE, _SPLIT),
+    block(_BOTH, 0, _set(0b1011, 0b1010, 0b010, 2, 1, 0, 1), 2, 1, _SPLIT),
+    block(_BOTH, 0, _set(0b1111, 0b1110, 0b110, 2, 1, 2, 1), 2, 2, _SPLIT),
+    block(_BOTH, 0, _set(0b1101, 0b1100, 0b110, 2, 1, 2, 1), 2, 1, _SPLIT),
+    block(_BOTH, 0, _LATER, 2, 2, _SPLIT),
+    block(_BOTH, 0, _LATER, 1, 1, _SPLIT),
+    block(_BOTH, 0, _LATER, 0, _NONE, _SPLIT),  # refused 11
+    block(_BOTH, 0, {}, 0, _NONE, _SPLIT),  # refused 3
+    block(_BOTH, 0, _set(0b1101, 0b1100, 0b110, 2, 1, 3, 1), 2, 2, _SPLIT),
+    held({1: 1, 2: 2}),
 )
 
 STRUCK_PLACES = (2, 7, 8, 11, 13, 17)
@@ -111,23 +110,22 @@ domain 1 2 2 0 1 1 2 0
 domain 2 0 0 0 0 0 0 0
 """
 _FLUSHED = _set(0b0001, 0, 0b010, 2, 1, 0, 0)
-STRUCK_STREAM = b"".join(
-    (
-        block({}, 0, _FRESH),
-        block(_FIRST, 0, _FRESH, 0, 1),
-        block(_BOTH, 0, _FRESH, 0, 2),
-        block(_BOTH, 0, {}, 0, _NONE, _ONE),
-        block(_BOTH, 0, _STORED, 2, 1, _ONE),
-        block(_BOTH, 0, _STORED, 2, 1, _ONE),
-        block(_BOTH, 0, {}, 0, _NONE, _TWO),
-        block(_BOTH, 0, {}, 0, _NONE, _SPLIT),
-        block(_BOTH, 0, _set(0b0011, 0b0010, 0b010, 2, 1, 0, 0), 2, 1, _SPLIT),
-        block(_BOTH, 0, _FLUSHED, 2, 1, _SPLIT),
-        block(_BOTH, 0, _FLUSHED, 1, 1, _SPLIT),
-        block(_BOTH, 0, _FLUSHED, 0, _NONE, _SPLIT),
-        block(_BOTH, 0, {}, 0, _NONE, _SPLIT),
-        held({1: 1}),
-    )
+STRUCK_STREAM = with_counts(
+    STRUCK_LISTING,
+    block({}, 0, _FRESH),
+    block(_FIRST, 0, _FRESH, 0, 1),
+    block(_BOTH, 0, _FRESH, 0, 2),
+    block(_BOTH, 0, {}, 0, _NONE, _ONE),
+    block(_BOTH, 0, _STORED, 2, 1, _ONE),
+    block(_BOTH, 0, _STORED, 2, 1, _ONE),
+    block(_BOTH, 0, {}, 0, _NONE, _TWO),
+    block(_BOTH, 0, {}, 0, _NONE, _SPLIT),
+    block(_BOTH, 0, _set(0b0011, 0b0010, 0b010, 2, 1, 0, 0), 2, 1, _SPLIT),
+    block(_BOTH, 0, _FLUSHED, 2, 1, _SPLIT),
+    block(_BOTH, 0, _FLUSHED, 1, 1, _SPLIT),
+    block(_BOTH, 0, _FLUSHED, 0, _NONE, _SPLIT),
+    block(_BOTH, 0, {}, 0, _NONE, _SPLIT),
+    held({1: 1}),
 )
 WORDS = 0b110, 0b010  # at the end of either run
 OWN = b"2\n"  # node 1 is free for domain 1, and points right in either run; node 2 is domain 2's

@@ -12,12 +12,15 @@ import unittest
 from collections.abc import Callable
 from unittest import mock
 
-from frontend import cli, programs, tracefile
+from frontend import cli, listing, programs, run, stepper, tracefile
 from frontend.errors import MachineFailure
+from frontend.listing import Counts
 from frontend.stepper import Row
 from frontend.tracefile import Step, Trace
 
 SH = "/bin/sh"
+NONE_COUNTED = Counts(*[0] * 7)
+DOMAIN_AT = 614  # where the domain of a step stands in a block
 MAIN = str(programs.ROOT / "frontend" / "__main__.py")
 
 
@@ -70,8 +73,27 @@ def ended(*arguments: str, data: bytes = b"", **options) -> tuple[int, bytes, st
 
 
 def by_rote(**said: Callable[..., bytes]) -> contextlib.AbstractContextManager:
-    """Let programs answer as they are told, and be there without being built."""
+    """Let programs answer as they are told, and be there without being built. The stepper's answer is given as a stream."""
+    if "stepper" in said:
+        answer = said["stepper"]
+        said["stepper"] = lambda data: contextlib.nullcontext(io.BytesIO(answer(data)))
     return mock.patch.multiple(programs, need=lambda *names: None, **said)
+
+
+def streamed(data: bytes) -> bytes:
+    """Give the whole stream that the stepper writes for a trace file."""
+    with programs.stepper(data) as stream:
+        return stream.read()
+
+
+def parsed(stream: bytes, trace: Trace) -> stepper.Stream:
+    """Take a whole stream apart."""
+    return stepper.parse(io.BytesIO(stream), trace)
+
+
+def taken(trace: Trace, listed: bytes, stream: bytes) -> run.Run:
+    """Make a run of what programs might have said."""
+    return run.fold(trace, listing.parse(listed), io.BytesIO(stream))
 
 
 def random_bytes(source: random.Random, count: int) -> bytes:
@@ -103,15 +125,41 @@ def block(
     visited: int = 0,
     domain: int = 65535,
     records: dict[int, tuple[int, int, int]] | None = None,
+    counts: dict[int, tuple[int, ...]] | None = None,
 ) -> bytes:
     """Write one block of a stepper stream; without a domain, that of a step which was taken for none."""
-    words = [word for number in range(16) for word in maps.get(number, (0, 0))]
-    selectors = [selector for core in range(32) for selector in (records or {}).get(core, (0, 0, 0))]
-    data = struct.pack("<32H", *words) + bytes(selectors)
+    data = b"".join(
+        struct.pack("<HH7I", *maps.get(number, (0, 0)), *(counts or {}).get(number, (0,) * 7)) for number in range(16)
+    )
+    data += bytes(selector for core in range(32) for selector in (records or {}).get(core, (0, 0, 0)))
     data += struct.pack("<HHHH", place, len(rows or {}), visited, domain)
     for number, row in (rows or {}).items():
         data += struct.pack(f"<HHHQ{len(row.tags)}Q", number, row.valid, row.dirty, row.word, *row.tags)
     return data
+
+
+def with_counts(listed: bytes, *parts: bytes) -> bytes:
+    """Join the parts of a stream, blocks made without counts and the lines held: each block with the counts that answers amount to."""
+    fresh, *blocks, end = parts
+    counts, done = {}, [fresh]
+    for answer, data in zip(listing.parse(listed).answers, blocks):
+        (domain,) = struct.unpack_from("<H", data, DOMAIN_AT)
+        removed = domain < 16 and not any(data[32 * domain : 32 * domain + 4])
+        counts[domain] = _tallied(counts.get(domain, NONE_COUNTED), answer, removed)
+        each = (data[32 * number : 32 * number + 4] + struct.pack("<7I", *counts.get(number, NONE_COUNTED)) for number in range(16))
+        done.append(b"".join(each) + data[512:])
+    assert len(done) == len(blocks) + 1
+    return b"".join((*done, end))
+
+
+def _tallied(counts: Counts, answer: listing.Answer, removed: bool) -> Counts:
+    """Count an answer to a step of a domain, which has no ways after it if it is removed."""
+    if answer.word == "policy":
+        return NONE_COUNTED if removed else counts._replace(dropped=counts.dropped + answer.fields[0])
+    rises = {"hit": ("hits",), "fill": ("misses", "fills"), "evict": ("misses", "evicted", "fills"), "pass": ("misses",)}
+    named = {**rises, "flush": ("flushed",)}.get(answer.word, ())
+    dirty = answer.word in ("evict", "flush") and answer.fields[-1] == 1
+    return counts._replace(**{name: getattr(counts, name) + 1 for name in (*named, *["written_back"] * dirty)})
 
 
 def held(lines: dict[int, int]) -> bytes:

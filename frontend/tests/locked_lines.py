@@ -4,7 +4,7 @@ from __future__ import annotations
 import struct
 
 from frontend.stepper import Row
-from frontend.tests.helpers import block, held
+from frontend.tests.helpers import block, held, with_counts
 
 _KINDS = (16, 1, 1, 1, 1, 16, 1, 1, 1, 2, 1, 1, 1, 16, 1, 3)
 _CODES = bytes(number for place, kind in enumerate(_KINDS) for number in (3 if place < 13 else 4, kind))
@@ -46,25 +46,24 @@ _FILLED = _set(0b1111, 0, 0b1_1010, 3, 2, 1, 0)
 _SHUT = _set(0b1111, 0, 0b0_0010, 3, 2, 1, 0)  # nodes 3 and 4 are free no more, and become zero
 _USED = _set(0b1111, 0, 0, 3, 2, 1, 0)  # only way 2 was used since: node 1 points left
 _LAST = _set(0b1111, 0b1000, 0, 3, 4, 5, 0)
-STREAM = b"".join(
-    (
-        block({}, 0, _set(0, 0, 0, 0, 0, 0, 0)),
-        block(_OPEN, 0, _set(0, 0, 0, 0, 0, 0, 0), 0, 3),
-        block(_OPEN, 0, _set(0b1000, 0, 0b0_0000, 0, 0, 0, 0), 4, 3),
-        block(_OPEN, 0, _set(0b1100, 0, 0b1_0000, 0, 0, 1, 0), 4, 3),
-        block(_OPEN, 0, _set(0b1110, 0, 0b1_0010, 0, 2, 1, 0), 4, 3),
-        block(_OPEN, 0, _FILLED, 4, 3),
-        block(_LOCKED, 0, _SHUT, 0, 3),
-        block(_LOCKED, 0, _USED, 3, 3),
-        block(_LOCKED, 0, _USED, 1, 3),  # a hit in the locked way 0
-        block(_LOCKED, 0, _set(0b1111, 0, 0b10, 3, 4, 1, 0), 4, 3),
-        block(_LOCKED, 0, _set(0b1111, 0b1000, 0b10, 3, 4, 1, 0), 4, 3),  # a store in the locked way 3
-        block(_LOCKED, 0, _LAST, 4, 3),
-        block(_LOCKED, 0, _LAST, 4, 3),
-        block(_LOCKED, 0, _LAST, 1, 3),
-        block(_BOTH, 0, _LAST, 0, 4),
-        block(_BOTH, 0, _LAST, 4, 4),
-        block(_BOTH, 0, _LAST, 4, 4),
-        held({3: 4}),
-    )
+STREAM = with_counts(
+    LISTING,
+    block({}, 0, _set(0, 0, 0, 0, 0, 0, 0)),
+    block(_OPEN, 0, _set(0, 0, 0, 0, 0, 0, 0), 0, 3),
+    block(_OPEN, 0, _set(0b1000, 0, 0b0_0000, 0, 0, 0, 0), 4, 3),
+    block(_OPEN, 0, _set(0b1100, 0, 0b1_0000, 0, 0, 1, 0), 4, 3),
+    block(_OPEN, 0, _set(0b1110, 0, 0b1_0010, 0, 2, 1, 0), 4, 3),
+    block(_OPEN, 0, _FILLED, 4, 3),
+    block(_LOCKED, 0, _SHUT, 0, 3),
+    block(_LOCKED, 0, _USED, 3, 3),
+    block(_LOCKED, 0, _USED, 1, 3),  # a hit in the locked way 0
+    block(_LOCKED, 0, _set(0b1111, 0, 0b10, 3, 4, 1, 0), 4, 3),
+    block(_LOCKED, 0, _set(0b1111, 0b1000, 0b10, 3, 4, 1, 0), 4, 3),  # a store in the locked way 3
+    block(_LOCKED, 0, _LAST, 4, 3),
+    block(_LOCKED, 0, _LAST, 4, 3),
+    block(_LOCKED, 0, _LAST, 1, 3),
+    block(_BOTH, 0, _LAST, 0, 4),
+    block(_BOTH, 0, _LAST, 4, 4),
+    block(_BOTH, 0, _LAST, 4, 4),
+    held({3: 4}),
 )

@@ -1,26 +1,30 @@
 """The story of a run, from a listing and a stream made by hand."""
 from __future__ import annotations
 
+import io
 import os
 import re
 import unittest
 from unittest import mock
 
-from frontend import listing, paint, stepper, tracefile
+from frontend import assembler, files, listing, paint, run, stepper, tracefile
 from frontend.explain import MOST_ROWS, Explainer
 from frontend.paint import Paint
 from frontend.programs import ROOT
-from frontend.run import Run
 from frontend.stepper import Row
+from frontend.telling import Teller, Wanted
 from frontend.tests import balance, case_a, core_switch, highest_first, locked_lines, true_lru
-from frontend.tests.helpers import block, by_rote, call, held
+from frontend.tests.helpers import block, by_rote, call, held, parsed, taken
 from frontend.tracefile import Step, Trace
 
 
-def told(trace: Trace, listed: bytes, stream: bytes, colour: bool = False, show_all: bool = False) -> str:
-    """Tell a run of what programs might have said."""
-    run = Run(trace, listing.parse(listed), stepper.parse(stream, trace))
-    return "\n".join(Explainer(run, Paint(colour), show_all).lines())
+def told(trace: Trace, listed: bytes, stream: bytes, colour: bool = False, show_all: bool = False, **options) -> str:
+    """Tell a run of what programs might have said; with `source`, as that of a text, and with `wanted`, some of its steps."""
+    run_taken, wanted = taken(trace, listed, stream), options.get("wanted", Wanted())
+    given = files.Given("t.txt", b"", options.get("source"))
+    moments = run.walk(trace, run_taken.listing, io.BytesIO(stream))
+    steps = Teller(given, trace, wanted).tell(moments)
+    return "\n".join(Explainer(run_taken, "t.txt", Paint(colour), show_all).lines(steps, wanted.all))
 
 
 def told_of_each_step(trace: Trace, listed: bytes, stream: bytes) -> list[str]:
@@ -57,13 +61,14 @@ Lines in and lines out
 
     def test_policy(self):
         step = self.step(1)
-        self.assertIn("domain 1 asks for hit map 2,3 and fill map 2,3\n  policy 0 0\n  Accepted; no valid", step)
-        self.assertIn("\n  domain 0 has hit map 0,1 and fill map 0,1\n", step)
-        self.assertIn("\n  domain 1 has hit map none -> 2,3 and fill map none -> 2,3\n  no row changed", step)
+        self.assertIn("domain 1 asks for hit map 2,3 (0xc) and fill map 2,3 (0xc)\n  policy 0 0\n  Accepted; no valid", step)
+        self.assertIn("\n  domain 0 has hit map 0,1 (0x3) and fill map 0,1 (0x3)\n", step)
+        turned = "none (0x0) -> 2,3 (0xc)"
+        self.assertIn(f"\n  domain 1 has hit map {turned} and fill map {turned}\n  no row changed", step)
 
     def test_evict(self):
         expected = """\
- domain 0 loads at 0x80
+ domain 0 loads at 0x80 (line 2, set 0, tag 2)
   evict 1 0 1
   A miss: the line with tag 0 was evicted from way 1 (dirty, so it is written back), and the way was
   filled.
@@ -81,7 +86,7 @@ Lines in and lines out
 
     def test_refused(self):
         step = self.step(7)
-        self.assertIn("\n  refused 6\n  The domain's hit map is empty: it has no ways. Give it ways by a policy", step)
+        self.assertIn("\n  refused 6\n  The hit map of domain 2 is empty: it has no ways. Give it ways by a policy", step)
         self.assertNotIn("way 0", step)
 
     def test_hit_changes_nothing(self):
@@ -106,7 +111,7 @@ class TrueLru(unittest.TestCase):
     def test_word(self):
         self.assertTrue(self.story().startswith("1 set, 4 ways, rule 2 (true LRU), 13 steps\n"))
         expected = """\
- domain 0 loads at 0xc0
+ domain 0 loads at 0xc0 (line 3, set 0, tag 3)
   evict 1 1 0
   A miss: the line with tag 1 was evicted from way 1 (not dirty), and the way was filled.
   The lookup visited 3 ways.
@@ -124,7 +129,7 @@ class TrueLru(unittest.TestCase):
     def test_orders_are_those_that_the_text_says(self):
         text = (ROOT / "examples" / "true-lru.txt").read_text(encoding="ascii")
         steps = [line for line in text.splitlines() if line[:1].isdigit()]
-        blocks = stepper.parse(true_lru.STREAM, tracefile.decode(true_lru.FILE)).blocks
+        blocks = parsed(true_lru.STREAM, tracefile.decode(true_lru.FILE)).blocks
         said = {place: line.partition("oldest first ")[2][:7] for place, line in enumerate(steps) if "oldest first" in line}
         self.assertEqual(list(said), [0, 1, 4, 5, 6, 8, 9, 12])
         for place, order in said.items():
@@ -171,7 +176,7 @@ class LockedLines(unittest.TestCase):
         steps = [line for line in self.TEXT.splitlines() if line[:1].isdigit()][6:10]
         said = [re.findall("node 1 points [a-z]+|turns no node", line) for line in steps]
         self.assertEqual(said, [["node 1 points left"], ["turns no node"], ["node 1 points right"], ["turns no node"]])
-        blocks = stepper.parse(locked_lines.STREAM, tracefile.decode(locked_lines.FILE)).blocks
+        blocks = parsed(locked_lines.STREAM, tracefile.decode(locked_lines.FILE)).blocks
         words = [stepper.rows_at_end(blocks[: place + 2])[0].word for place in range(6, 10)]
         self.assertEqual(words, [0, 0, 0b10, 0b10])
 
@@ -301,7 +306,7 @@ class CoreSwitch(unittest.TestCase):
 
     def test_a_miss_where_the_neighbour_has_the_line(self):
         expected = """\
- core 3 loads at 0x40
+ core 3 loads at 0x40 (line 1, set 0, tag 1)
   Core 3 loads through DS, which names domain 2.
   fill 3
   A miss: way 3, the highest of the domain's fill map that held no valid line, was filled.
@@ -328,22 +333,22 @@ class CoreSwitch(unittest.TestCase):
         route = "Core 3 loads through DS, which names domain 0."
         self.assertIn(f"\n  {route}\n  refused 6\n  The hit map of domain 0 is empty: it has no ways.", self.step(2))
         said = " ".join(self.step(2).split())
-        self.assertIn("or let DS of core 3 name a domain that has ways. domain 1 has hit map 0,1 and", said)
+        self.assertIn("or let DS of core 3 name a domain that has ways. domain 1 has hit map 0,1 (0x3) and", said)
         self.assertNotIn("way 0 ", said)
 
     def test_refused(self):
         listed = "Core 32 is not in the list: the lister lends records for cores 0 to 31. Name a core from 0 to 31."
-        self.assertEqual(self.step(15), f" core 32 loads at 0x40\n  refused 11\n  {listed}")
+        self.assertEqual(self.step(15), f" core 32 loads at 0x40 (line 1, set 0, tag 1)\n  refused 11\n  {listed}")
         said, wrong = " ".join(self.step(16).split()), "DS would be 16, and a selector names a domain, 0 to 15."
         self.assertTrue(said.startswith(f"core 3 asks for CS 1, DS 16, ES 1 refused 3 {wrong} Name a domain"), said)
 
     def test_a_step_without_a_core(self):
-        self.assertIn("\nstep 13  domain 2 loads at 0x40\n  hit 3\n  A hit in way 3.\n", self.story())
+        self.assertIn("\nstep 13  domain 2 loads at 0x40 (line 1, set 0, tag 1)\n  hit 3\n  A hit in way 3.\n", self.story())
 
     def test_selectors_and_domains_are_those_that_the_text_says(self):
         said = re.findall(r"^core .*# ([CDE]S).*?\bdomain ([0-9])", self.TEXT, re.MULTILINE)
         self.assertEqual(said, re.findall(r"through ([CDE]S), which names domain ([0-9])\.", self.story()))
-        blocks = stepper.parse(core_switch.STREAM, self.TRACE).blocks
+        blocks = parsed(core_switch.STREAM, self.TRACE).blocks
         for line, block in list(zip(self.steps(), blocks[1:]))[2:]:
             named = re.search(r"# ([CDE]S.*?)?domain ([0-9])", line)
             self.assertEqual(named and int(named[2]), block.domain, line)
@@ -371,7 +376,8 @@ class Cores(unittest.TestCase):
     def said(self, step: Step, answer: str, domain: int = 65535, visited: int = 0, **changes) -> str:
         """Tell one step after which a block has changed; give its lines, joined."""
         after = {"visited": visited, "domain": domain, "records": self.HELD, **changes}
-        stream = block(self.MAPS, 0, self.FRESH, records=self.HELD) + block(self.MAPS, **after) + held({})
+        fresh = block(self.MAPS, 0, self.FRESH, records=self.HELD, counts=changes.get("counts"))
+        stream = fresh + block(self.MAPS, **after) + held({})
         (told_of_it,) = told_of_each_step(Trace(1, 4, 0, (step,)), f"1 4 0 1\n0 {answer}\n".encode(), stream)
         return told_of_it
 
@@ -394,8 +400,16 @@ class Cores(unittest.TestCase):
 
     def test_counts_that_are_full(self):
         said = self.said(Step(3, 32, 64), "refused 7", 1)
-        self.assertIn("Core 3 fetches through CS, which names domain 1. refused 7 One of the seven counts of domain 1", said)
-        self.assertIn("domain 2 has hit map 2,3 and fill map way3", said)
+        route = "Core 3 fetches through CS, which names domain 1. refused 7"
+        self.assertIn(f"{route} One of the domain's seven counts is 4,294,967,295 and cannot rise, or", said)
+        self.assertIn("domain 2 has hit map 2,3 (0xc) and fill map way3 (0x8)", said)
+        for counts, which in (
+            ((7, 4_294_967_295, 0, 0, 0, 0, 0), "count of misses of domain 1 is"),
+            ((0, 0, 0, 4_294_967_295, 0, 0, 4_294_967_295), "counts of written back and dropped of domain 1 are"),
+            ((4_294_967_295,) * 3 + (0,) * 4, "counts of hits, misses and evicted of domain 1 are"),
+        ):
+            said = self.said(Step(3, 32, 64), "refused 7", 1, counts={1: counts, 2: (4_294_967_295,) * 7})
+            self.assertIn(f"{route} The {which} 4,294,967,295 and cannot rise. Remove the domain", said)
 
     def test_a_write_that_changes_nothing(self):
         said = self.said(Step(3, 40, 0x4D_0201), "select 1 2 77")
@@ -500,6 +514,99 @@ class Policies(unittest.TestCase):
         self.assertRegex(story, r"way 0  empty +empty +- -> domain 3,12  - -> domain 12\n")
 
 
+class Source(unittest.TestCase):
+    """The line of a text that a step stands on, and its comment."""
+
+    TEXT = b"sets 1\nways 4\nrule tree\n\n  0 policy hit=0,1 fill=0,1\t# mine \xc3\xa4\x07\n\n2 load 0x40 # none\n"
+
+    def story(self, data: bytes) -> str:
+        text = assembler.read("t.txt", data)
+        stream = block({}, 0, {0: Row(0, 0, 0, (0, 0, 0, 0))}) + block({0: (3, 3)}, domain=0) + block({0: (3, 3)}, domain=2)
+        listed = b"1 4 0 2\n0 policy 0 0\n1 refused 6\ndomain 0 0 0 0 0 0 0 0\n"
+        return told(text.trace, listed, stream + held({}), source=text)
+
+    def test_lines(self):
+        story = self.story(self.TEXT)
+        self.assertIn("(0x3)\n  t.txt:5: 0 policy hit=0,1 fill=0,1\t# mine \u00e4?\n  policy 0 0\n", story)
+        self.assertIn("\nstep 1  domain 2 loads at 0x40 (line 1, set 0, tag 1)\n  t.txt:7: 2 load 0x40 # none\n  refused 6\n", story)
+
+    def test_a_long_line(self):
+        story = self.story(self.TEXT.replace(b"# none", b"#" + b" long" * 1000))
+        self.assertIn("  t.txt:7: 2 load 0x40 # long long", story)
+        self.assertIn("... (5,013 characters)\n  refused 6\n", story)
+
+    def test_a_trace_file_has_none(self):
+        self.assertNotIn("t.txt", told_case_a())
+
+
+class Filters(unittest.TestCase):
+    """Some of the steps of case A."""
+
+    def places(self, *options: str) -> list[int]:
+        """Explain case A with options; give the places of the steps that are told."""
+        with by_rote(lister=lambda data: case_a.LISTING, stepper=lambda data: case_a.STREAM):
+            status, out, err = call("explain", "-", *options, stdin=case_a.FILE)
+        self.assertEqual((status, err), (0, ""))
+        found = [int(place) for place in re.findall("^step ([0-9]+) ", out.decode(), re.MULTILINE)]
+        ending = f"\n{len(found)} step{'s' * (len(found) != 1)} of 9 shown\n"
+        self.assertEqual(out.decode().endswith(ending), bool(options), out.decode())
+        self.assertEqual("At the end" in out.decode(), not options)
+        return found
+
+    def test_by_place(self):
+        self.assertEqual(self.places(), list(range(9)))
+        self.assertEqual(self.places("--step", "3"), [3])
+        self.assertEqual(self.places("--step", "3-5"), [3, 4, 5])
+        self.assertEqual(self.places("--step", "0,3-5,4,8-4000"), [0, 3, 4, 5, 8])
+        self.assertEqual(self.places("--step", "1", "--step", "7"), [1, 7])
+        self.assertEqual(self.places("--step", "9-100"), [])
+
+    def test_by_domain(self):
+        self.assertEqual(self.places("--domain", "1"), [1, 4])
+        self.assertEqual(self.places("--domain", "1", "--domain", "2"), [1, 4, 7])
+        self.assertEqual(self.places("--domain", "15"), [])
+
+    def test_by_answer(self):
+        self.assertEqual(self.places("--word", "evict"), [5])
+        self.assertEqual(self.places("--word", "fill", "--word", "hit"), [2, 3, 4, 8])
+        self.assertEqual(self.places("--refused"), [7])
+        self.assertEqual(self.places("--refused", "--word", "hit"), [7, 8])
+
+    def test_by_several(self):
+        self.assertEqual(self.places("--word", "fill", "--domain", "0"), [2, 3])
+        self.assertEqual(self.places("--word", "fill", "--domain", "0", "--step", "3"), [3])
+        self.assertEqual(self.places("--set", "0"), [2, 3, 4, 5, 6, 7, 8])  # no policy change changed it
+        self.assertEqual(self.places("--set", "1"), [])
+
+    def test_options_that_are_wrong(self):
+        for options, reason in (
+            (("--step", "x"), "'x' is not a number; write it in decimal, from 0"),
+            (("--step", "5-3"), "'5-3' runs downwards; write 3-5"),
+            (("--step", "3-"), "'' is not a number"),
+            (("--step", ""), "'' is not a number"),
+            (("--set", "-1"), "'-1' is not a number"),
+            (("--domain", "16"), "is not a domain; domains are the decimal numbers 0 to 15"),
+            (("--word", "miss"), "invalid choice: 'miss' (choose from"),
+        ):
+            status, out, err = call("explain", "-", *options, stdin=case_a.FILE)
+            self.assertEqual((status, out), (2, b""))
+            self.assertIn(reason, err)
+
+    def test_one_set_of_many(self):
+        sets = 8
+        fresh = block({}, 0, {number: Row(0, 0, 3, (0, 0)) for number in range(sets)})
+        full = {number: Row(1, 1, 2, (number + 1, 0)) for number in range(7)}
+        trace = Trace(sets, 2, 1, (Step(0, 2, 0), Step(0, 16, 0), Step(0, 1, 64 * 3)))
+        stream = fresh + block({0: (1, 1)}, 0, full, domain=0) + block({}, 0, {2: Row(0, 0, 3, (0, 0))}, domain=0)
+        stream += block({}, 3, domain=0) + held({})
+        listed = b"8 2 1 3\n0 fill 0\n1 policy 1 1\n2 refused 6\n"
+        for number, due in ((0, ["0"]), (2, ["0", "1"]), (3, ["0", "2"]), (7, [])):
+            story = told(trace, listed, stream, wanted=Wanted(sets=frozenset((number,))))
+            self.assertEqual(re.findall("^step ([0-9]+) ", story, re.MULTILINE), due, number)
+            shown = set(re.findall("set ([0-9]+)  before", story))
+            self.assertEqual(shown, {str(number)} if due else set())
+
+
 class Colour(unittest.TestCase):
     """Colour on a terminal only."""
 
@@ -563,9 +670,8 @@ class Command(unittest.TestCase):
             self.assertTrue(err.startswith(f"dipperlock: {agree}fills ") and said in err, err)
             self.assertTrue(err.endswith(f"' should hold, and the right side is {out}\n"), err)
 
-    def test_counts_that_the_balance_does_not_have(self):
-        listed = case_a.LISTING.replace(b"domain 0 1 3 1 1 1 3 0", b"domain 0 9 9 1 9 1 3 0")
-        with by_rote(lister=lambda data: listed, stepper=lambda data: case_a.STREAM):
-            status, out, _ = call("explain", "-", stdin=case_a.FILE)
-        self.assertEqual(status, 0)
-        self.assertIn(b"\n  domain 0: fills 3 = evicted 1 + flushed 1 + dropped 0 + held 1\n", out)
+    def test_counts_that_differ(self):
+        for line in ("9 3 1 1 1 3 0", "1 9 1 1 1 3 0", "1 3 1 9 1 3 0"):
+            err = self.refused(case_a.LISTING.replace(b"domain 0 1 3 1 1 1 3 0", b"domain 0 %s" % line.encode()), case_a.STREAM)
+            agree = "target/bin/lister and target/bin/stepper do not agree on the counts of domain 0: 'hits "
+            self.assertTrue(err.startswith(f"dipperlock: {agree}{line[0]}, misses {line[2]}, ") and " and 'hits 1, misses 3, " in err, err)

@@ -5,14 +5,16 @@ import re
 import unittest
 from dataclasses import replace
 
-from frontend import isolate, listing, stepper, struck, tracefile
+from frontend import isolate, struck, text, tracefile
 from frontend.compare import compare
 from frontend.errors import MachineFailure
+from frontend.isolate import Isolated
 from frontend.paint import Paint
 from frontend.run import Run
 from frontend.stepper import Row
-from frontend.tests import core_switch, true_lru
-from frontend.tests.helpers import block, by_rote, call, held
+from frontend.tests import core_switch, schema, true_lru
+from frontend.tests.helpers import block, by_rote, call, held, taken, with_counts
+from frontend.tests.test_cli import InFolder
 from frontend.tracefile import Step, Trace
 
 STEPS = (
@@ -51,48 +53,57 @@ domain 1 0 0 0 0 0 0 0
 """
 BOTH = {0: (1, 1), 1: (2, 2)}
 FRESH = block({}, 0, {0: Row(0, 0, 3, (0, 0))})
-MADE = block({0: (1, 1)}, domain=0) + block(BOTH, domain=1)
-WHOLE_STREAM = b"".join(
-    (
-        FRESH + MADE,
-        block(BOTH, 0, {0: Row(2, 0, 1, (0, 0))}, 1, 1),
+MADE = block({0: (1, 1)}, domain=0), block(BOTH, domain=1)
+
+
+def whole_stream(visited: int = 1) -> bytes:
+    """Write the stream of the whole run, in which the neighbour's fill visited some ways."""
+    return with_counts(
+        WHOLE_LISTING,
+        FRESH,
+        *MADE,
+        block(BOTH, 0, {0: Row(2, 0, 1, (0, 0))}, visited, 1),
         block(BOTH, 0, {0: Row(3, 0, 0, (0, 0))}, 1, 0),
         block(BOTH, domain=2),
         block(BOTH, 0, {0: Row(1, 0, 0, (0, 0))}, 1, 1),
         block(BOTH, 0, {0: Row(1, 0, 0, (1, 0))}, 1, 0),
         held({0: 1}),
     )
-)
-STRUCK_MID = block(BOTH, 0, {0: Row(1, 0, 2, (0, 0))}, 1, 0) + block(BOTH, domain=2)
+
+
+WHOLE_STREAM = whole_stream()
+STRUCK_MID = block(BOTH, 0, {0: Row(1, 0, 2, (0, 0))}, 1, 0), block(BOTH, domain=2)
 
 
 def struck_stream(last: bytes) -> bytes:
     """Write the stream of the struck-out run with a last block."""
-    return FRESH + MADE + STRUCK_MID + last + held({0: 1})
+    return with_counts(STRUCK_LISTING, FRESH, *MADE, *STRUCK_MID, last, held({0: 1}))
 
 
 STRUCK_STREAM = struck_stream(block(BOTH, 0, {0: Row(1, 0, 2, (1, 0))}, 1, 0))
 
 
-def run_of(trace: Trace, listed: bytes, stream: bytes) -> Run:
-    """Make a run of what programs might have said."""
-    return Run(trace, listing.parse(listed), stepper.parse(stream, trace))
 
-
-WHOLE_RUN = run_of(WHOLE, WHOLE_LISTING, WHOLE_STREAM)
+WHOLE_RUN = taken(WHOLE, WHOLE_LISTING, WHOLE_STREAM)
 # Domain 0 has fill map 1 at the end of both runs, and the one set's word is 0, and 2 in the struck-out run.
 PARTS_ASKED = tuple(tracefile.encode(Trace(1, 2, 1, (Step(1, 0, word),))) for word in (0, 2))
+
+
+def rendered(name: str, whole: Run, struck: Run) -> str:
+    """Lay out how two runs compare for domain 0."""
+    found = [Isolated(0, struck, compare(whole, struck, 0))]
+    return "\n".join(isolate.render_one(name, whole, found, Paint(False))) + "\n"
 
 
 class Compare(unittest.TestCase):
     """What is compared, and what is found."""
 
     def found(self, listed: bytes = STRUCK_LISTING, stream: bytes = STRUCK_STREAM):
-        return compare(WHOLE_RUN, run_of(STRUCK, listed, stream), 0)
+        return compare(WHOLE_RUN, taken(STRUCK, listed, stream), 0)
 
     def rendered(self, listed: bytes = STRUCK_LISTING, stream: bytes = STRUCK_STREAM) -> str:
-        struck = run_of(STRUCK, listed, stream)
-        return isolate.render("t.trace", 0, WHOLE_RUN, struck, compare(WHOLE_RUN, struck, 0), Paint(False))
+        struck = taken(STRUCK, listed, stream)
+        return rendered("t.trace", WHOLE_RUN, struck)
 
     def test_no_difference(self):
         found = self.found()
@@ -143,11 +154,9 @@ class Compare(unittest.TestCase):
         self.assertEqual(first.seen, ("evict 0 0 0, 1 way visited", "evict 0 0 0"))
 
     def test_ways_visited_for_another_domain_may_differ(self):
-        fewer = block(BOTH, 0, {0: Row(2, 0, 1, (0, 0))}, 1, 1)
-        more = block(BOTH, 0, {0: Row(2, 0, 1, (0, 0))}, 2, 1)
-        self.assertEqual(WHOLE_STREAM.count(fewer), 1)
-        whole = run_of(WHOLE, WHOLE_LISTING, WHOLE_STREAM.replace(fewer, more))
-        self.assertEqual(compare(whole, run_of(STRUCK, STRUCK_LISTING, STRUCK_STREAM), 0).differences(), [])
+        whole = taken(WHOLE, WHOLE_LISTING, whole_stream(2))
+        self.assertNotEqual(whole.visited, WHOLE_RUN.visited)
+        self.assertEqual(compare(whole, taken(STRUCK, STRUCK_LISTING, STRUCK_STREAM), 0).differences(), [])
 
     def test_different_verdict_on_another_domain(self):
         told = self.rendered(STRUCK_LISTING.replace(b"3 refused 8", b"3 policy 0 0"))
@@ -180,11 +189,11 @@ class Compare(unittest.TestCase):
     def test_different_map(self):
         stream = struck_stream(block({0: (1, 0), 1: (2, 2)}, 0, {0: Row(1, 0, 2, (1, 0))}, 1, 0))
         first = self.found(stream=stream).differences()[0]
-        self.assertEqual((first.name, first.seen), ("fill map", ("way0", "none")))
+        self.assertEqual((first.name, first.seen), ("fill map", ("way0 (0x1)", "none (0x0)")))
 
     def test_steps_that_do_not_pair(self):
         with self.assertRaises(MachineFailure):
-            compare(WHOLE_RUN, run_of(Trace(1, 2, 1, ()), b"1 2 1 0\n", FRESH + held({})), 0)
+            compare(WHOLE_RUN, taken(Trace(1, 2, 1, ()), b"1 2 1 0\n", FRESH + held({})), 0)
 
 
 class Counted(unittest.TestCase):
@@ -198,13 +207,13 @@ class Counted(unittest.TestCase):
         last = {number: Row(3, dirty, 0, (1, 2)) for number in range(self.SETS)}
         stream = block({}, 0, fresh) + block({0: (3, 3)}, 0, last, domain=0) + held({0: self.SETS * self.WAYS})
         listed = b"8 2 0 1\n0 policy 0 0\ndomain 0 0 0 0 0 0 0 0\n"
-        return run_of(Trace(self.SETS, self.WAYS, 0, (policy,)), listed, stream)
+        return taken(Trace(self.SETS, self.WAYS, 0, (policy,)), listed, stream)
 
     def test_every_line_counts(self):
         whole, struck = self.run_of(0), self.run_of(3)
         found = compare(whole, struck, 0)
         self.assertEqual(len(found.differences()), self.SETS * self.WAYS)
-        told = isolate.render("t.trace", 0, whole, struck, found, Paint(False))
+        told = rendered("t.trace", whole, struck)
         hidden = self.SETS * self.WAYS - isolate.MOST_ENDINGS
         self.assertEqual(told.count("\n*  set "), isolate.MOST_ENDINGS)
         self.assertIn(f"\n*  and {hidden} more differences\n", told)
@@ -228,7 +237,7 @@ def refused_run(steps: tuple[Step, ...], *domains: int, records: dict[int, tuple
     listed = "".join(f"{place} refused 6\n" for place in range(len(steps)))
     fresh = block({}, 0, {0: Row(0, 0, 0, (0, 0))}, records=records)
     stream = fresh + b"".join(block({}, domain=domain, records=records) for domain in domains) + held({})
-    return run_of(Trace(1, 2, 0, steps), f"1 2 0 {len(steps)}\n{listed}".encode(), stream)
+    return taken(Trace(1, 2, 0, steps), f"1 2 0 {len(steps)}\n{listed}".encode(), stream)
 
 
 class StruckOut(unittest.TestCase):
@@ -375,6 +384,77 @@ class Command(unittest.TestCase):
             self.assertRegex(out.decode(), f"\n +own replacement data +{said} +{said}\n")
 
 
+class Struck(InFolder):
+    """The struck-out trace, written for others to run."""
+
+    def run_it(self, *arguments: str) -> tuple[int, str, str]:
+        whole, struck_file = tracefile.encode(WHOLE), tracefile.encode(STRUCK)
+        said = {
+            "lister": {whole: WHOLE_LISTING, struck_file: STRUCK_LISTING}.__getitem__,
+            "stepper": {whole: WHOLE_STREAM, struck_file: STRUCK_STREAM}.__getitem__,
+            "purger": lambda data, domain: {(whole, 0): lines_of(STRUCK.steps)}[data, domain],
+            "parts": lambda entries: b"0\n",
+        }
+        with by_rote(**said):
+            status, out, err = call("isolate", "-", *arguments, stdin=whole)
+        return status, out.decode(), err
+
+    def test_as_a_file_and_as_a_text(self):
+        for name, due in (("s.trace", tracefile.encode(STRUCK)), ("s.txt", text.show(STRUCK).encode()), ("S.TXT", text.show(STRUCK).encode())):
+            target = self.folder / name
+            status, out, err = self.run_it("0", "-o", str(target))
+            self.assertEqual((status, err, target.read_bytes()), (0, "", due))
+            self.assertIn("No difference: domain 0", out)
+
+    def test_where_it_cannot_go(self):
+        for arguments, reason in (
+            (("0", "-o", "-"), "standard output has the comparison; write the struck-out trace to a file"),
+            (("--all", "-o", "x.trace"), "with --all, the name behind -o has to have {domain} in it"),
+        ):
+            status, out, err = self.run_it(*arguments)
+            self.assertEqual((status, out), (2, ""))
+            self.assertIn(reason, err)
+
+    def test_the_input_is_not_lost(self):
+        path = self.file("in.trace", tracefile.encode(WHOLE))
+        with by_rote():
+            self.assert_bad(("isolate", path, "0", "-o", path), "is the input itself, which would be lost; write to another file")
+        self.assertEqual((self.folder / "in.trace").read_bytes(), tracefile.encode(WHOLE))
+
+    def test_json(self):
+        status, out, err = self.run_it("0", "--json")
+        records = schema.lines(out.encode(), "isolate")
+        self.assertEqual((status, err), (0, ""))
+        self.assertEqual([record["type"] for record in records], ["trace", *["pair"] * 5, *["ending"] * 6, "verdict"])
+        pair = {"place": 6, "struck_place": 4, "whole": "evict 0 0 0, 1 way visited", "struck": "evict 0 0 0, 1 way visited", "same": True}
+        self.assertEqual({**records[3], **pair}, records[3])
+        verdict = {"domain": 0, "same": True, "differences": 0, "first": None, "own_steps": 3, "struck_out": 2}
+        self.assertEqual(records[-1], {"type": "verdict", **verdict})
+
+
+class AllDomains(unittest.TestCase):
+    """The verdict on each domain in use."""
+
+    def test_in_use(self):
+        self.assertEqual(isolate.in_use(WHOLE_RUN), [0, 1, 2])
+        steps = Step(3, 33, 0), Step(16, 1, 0), Step(255, 16, 0), Step(9, 99, 0), Step(32, 33, 0)
+        domains = 4, 16, 255, 9, 65535
+        self.assertEqual(isolate.in_use(refused_run(steps, *domains, records={3: (0, 4, 0)})), [4, 9])
+        self.assertEqual(list(isolate.render_all("t", refused_run(()), [], Paint(False)))[1:], ["No step belongs to a domain."])
+
+    def test_lines(self):
+        worse = taken(STRUCK, STRUCK_LISTING.replace(b"2 fill 0", b"2 hit 0"), STRUCK_STREAM)
+        good = taken(STRUCK, STRUCK_LISTING, STRUCK_STREAM)
+        found = [Isolated(domain, struck, compare(WHOLE_RUN, struck, 0)) for domain, struck in ((0, good), (5, worse))]
+        lines = list(isolate.render_all("t.trace", WHOLE_RUN, found, Paint(False)))
+        self.assertEqual(lines[0], "t.trace: 1 set, 2 ways, rule 1 (NRU), 7 steps")
+        self.assertEqual(lines[1], "domain 0: 3 steps of its own, 2 struck out: no difference")
+        first = "the first: step 3 (2 in the struck-out run), domain 0 loads at 0x0: 'fill 0, 1 way visited' in the whole run"
+        self.assertTrue(lines[2].startswith(f"domain 5: 3 steps of its own, 2 struck out: 1 difference, {first}"), lines[2])
+        records = list(isolate.tell_all("t.trace", WHOLE_RUN, found, Paint(False)))
+        self.assertEqual([record.get("same") for record in records], [None, True, False])
+
+
 class TrueLru(unittest.TestCase):
     """The example of true LRU with programs that answer by rote: a domain's own data is the order of its fill ways."""
 
@@ -423,7 +503,7 @@ class TrueLru(unittest.TestCase):
             (0, (0,) * 4, "none"),
         ):
             trace, listed = Trace(4, 2, 2, (Step(0, 16, 3 | fill << 16),)), b"4 2 2 1\n0 policy 0 0\ndomain 0 0 0 0 0 0 0 0\n"
-            run = replace(run_of(trace, listed, stream + block({0: (3, fill)}, domain=0) + held({})), own=own)
+            run = replace(taken(trace, listed, stream + block({0: (3, fill)}, domain=0) + held({})), own=own)
             ending = compare(run, run, 0).endings[-2]
             self.assertEqual((ending.name, ending.seen), ("own replacement data", (said, said)))
 
@@ -467,7 +547,7 @@ class CoreSwitch(unittest.TestCase):
         self.assertEqual(
             [(int(places[0]), int(places[1]), said) for *places, said, _, _ in rows],
             [
-                (0, 0, "asks for hit map 0,1 and fill map 0,1"),
+                (0, 0, "asks for hit map 0,1 (0x3) and fill map 0,1 (0x3)"),
                 (4, 3, "core 3 stores at 0x40"),
                 (5, 4, "core 3 loads at 0x40"),
                 (10, 7, "core 3 loads at 0x80"),
@@ -514,7 +594,7 @@ class Records(unittest.TestCase):
     def run_of(self, *records: dict[int, tuple[int, int, int]]) -> Run:
         fresh = block({}, 0, {0: Row(0, 0, 0, (0, 0))})
         stream = fresh + b"".join(block({}, records=record) for record in records) + held({})
-        return run_of(Trace(1, 2, 0, self.STEPS), b"1 2 0 2\n0 select 1 2 3\n1 select 0 0 0\n", stream)
+        return taken(Trace(1, 2, 0, self.STEPS), b"1 2 0 2\n0 select 1 2 3\n1 select 0 0 0\n", stream)
 
     def endings(self, whole: Run, struck: Run) -> list[tuple[str, tuple[str, str]]]:
         return [(ending.name, ending.seen) for ending in compare(whole, struck, 0).endings if "record" in ending.name]
@@ -535,7 +615,7 @@ class Records(unittest.TestCase):
                 ("record of core 4", ("CS 0, DS 0, ES 0", "CS 0, DS 7, ES 0")),
             ],
         )
-        told = isolate.render("t.trace", 0, whole, struck, compare(whole, struck, 0), Paint(False))
+        told = rendered("t.trace", whole, struck)
         self.assertRegex(told, r"\n\* +record of core 3 +CS 1, DS 2, ES 3 +CS 1, DS 2, ES 4 +<- first difference\n")
         self.assertIn("First difference: at the end, record of core 3: 'CS 1, DS 2, ES 3' in the whole run, ", told)
 

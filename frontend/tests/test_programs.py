@@ -11,10 +11,10 @@ import unittest
 from pathlib import Path
 from unittest import mock
 
-from frontend import build, cli, crates, programs
+from frontend import build, cli, crates, programs, stepper, tracefile
 from frontend.errors import MachineFailure
 from frontend.tests import case_a
-from frontend.tests.helpers import call
+from frontend.tests.helpers import call, streamed
 
 
 class Terminal(io.StringIO):
@@ -67,7 +67,38 @@ class Running(StandIns):
         self.script(self.bin, "purger", "print(sys.argv[1:])")
         self.assertEqual(programs.purger(b"", 15), b"['15']\n")
         self.script(self.bin, "stepper", "")
-        self.assertEqual(programs.stepper(b"x" * 1_000_000), b"")
+        self.assertEqual(streamed(b"x" * 1_000_000), b"")
+
+    def test_a_stream_is_read_as_it_comes(self):
+        self.script(self.bin, "stepper", "sys.stdout.buffer.write(sys.stdin.buffer.read()[:5] + bytes(1_000_000))")
+        with programs.stepper(case_a.FILE) as stream:  # what is not read does not keep the program from ending
+            self.assertEqual(stream.read(6), case_a.FILE[:5] + b"\0")
+        self.script(self.bin, "stepper", "print('x'); sys.stderr.write('full\\n')")
+        with contextlib.redirect_stderr(io.StringIO()) as err:
+            self.assertEqual(streamed(case_a.FILE), b"x\n")
+        self.assertEqual(err.getvalue(), "dipperlock: target/bin/stepper says: full\n")
+
+    def test_how_a_stepper_ended_is_told_before_what_its_stream_lacks(self):
+        for body, said in (
+            ("sys.exit('no memory')", "ended with status 1: no memory"),
+            ("os.kill(os.getpid(), 9)", "was ended by SIGKILL"),
+            ("", "did not give a whole stream of this trace: it breaks off within block 0 of 10"),
+        ):
+            self.script(self.bin, "stepper", body)
+            with self.assertRaises(MachineFailure) as caught, programs.stepper(case_a.FILE) as stream:
+                stepper.parse(stream, tracefile.decode(case_a.FILE))
+            self.assertEqual(str(caught.exception), f"target/bin/stepper {said}")
+
+    def test_whoever_reads_a_stream_may_go(self):
+        self.script(self.bin, "stepper", "time.sleep(100)")
+        start = time.monotonic()
+        with self.assertRaises(KeyboardInterrupt), programs.stepper(case_a.FILE):
+            raise KeyboardInterrupt
+        self.assertLess(time.monotonic() - start, 10)
+        (self.bin / "stepper").chmod(0o644)
+        with self.assertRaises(MachineFailure) as caught, programs.stepper(case_a.FILE):
+            pass
+        self.assertEqual(str(caught.exception), "cannot run target/bin/stepper: Permission denied")
 
     def test_failure(self):
         self.script(self.bin, "lister", "sys.exit('no memory')")

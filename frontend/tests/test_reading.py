@@ -8,7 +8,7 @@ from frontend.errors import MachineFailure
 from frontend.listing import Answer, Counts
 from frontend.stepper import Row
 from frontend.tests import balance, case_a, core_switch
-from frontend.tests.helpers import block, held
+from frontend.tests.helpers import block, held, parsed
 from frontend.tracefile import Step, Trace
 
 
@@ -130,7 +130,7 @@ class Streams(unittest.TestCase):
     """The stepper's bytes."""
 
     def test_case_a(self):
-        stream = stepper.parse(case_a.STREAM, tracefile.decode(case_a.FILE))
+        stream = parsed(case_a.STREAM, tracefile.decode(case_a.FILE))
         blocks = stream.blocks
         self.assertEqual((len(blocks), stream.held), (10, (1, 1, *[0] * 14)))
         self.assertEqual(blocks[1].hit[:3], (3, 0, 0))
@@ -142,7 +142,7 @@ class Streams(unittest.TestCase):
         self.assertEqual(stepper.rows_at_end(blocks), {0: Row(10, 0, 0, (1, 2, 0, 0))})
 
     def test_core_switch(self):
-        blocks = stepper.parse(core_switch.STREAM, tracefile.decode(core_switch.FILE)).blocks
+        blocks = parsed(core_switch.STREAM, tracefile.decode(core_switch.FILE)).blocks
         domains = [None, 1, 2, 0, None, 1, 1, None, 2, 2, None, 1, 2, 1, 2, 1, None, None, 2]
         self.assertEqual([block.domain for block in blocks], domains)
         none, first, second, split = (0, 0, 0), (1, 1, 1), (2, 2, 2), (1, 1, 2)
@@ -155,8 +155,8 @@ class Streams(unittest.TestCase):
     def test_the_order_of_records(self):
         selectors = {core: (3 * core, 3 * core + 1, 3 * core + 2) for core in range(32)}
         data = block({15: (0xFFFF, 0xABCD)}, 0, {0: Row(0, 0, 0, (0, 0))}, records=selectors)
-        self.assertEqual(len(data), 64 + 96 + 8 + 14 + 16)
-        (fresh,) = stepper.parse(data + held({}), Trace(1, 2, 0, ())).blocks
+        self.assertEqual(len(data), 512 + 96 + 8 + 14 + 16)
+        (fresh,) = parsed(data + held({}), Trace(1, 2, 0, ())).blocks
         self.assertEqual((fresh.hit[15], fresh.fill[15], fresh.hit[14]), (0xFFFF, 0xABCD, 0))
         self.assertEqual(fresh.records, tuple(selectors.values()))
 
@@ -165,8 +165,8 @@ class Streams(unittest.TestCase):
         rows = {0: Row(0, 0, 0, (0, 0)), 1: Row(0, 0, 0, (0, 0))}
         fresh, after = block({}, 0, rows), block({}, 1, {1: Row(1, 0, 0, (9, (1 << 64) - 1))}, domain=0)
         end = held({})
-        self.assertEqual(len(stepper.parse(fresh + after + end, trace).blocks), 2)
-        self.assertEqual(stepper.parse(fresh + block({}, visited=2, domain=0) + end, trace).blocks[1].visited, 2)
+        self.assertEqual(len(parsed(fresh + after + end, trace).blocks), 2)
+        self.assertEqual(parsed(fresh + block({}, visited=2, domain=0) + end, trace).blocks[1].visited, 2)
         for data, reason in (
             (b"", "breaks off within block 0 of 2"),
             (fresh, "breaks off within block 1 of 2"),
@@ -190,9 +190,9 @@ class Streams(unittest.TestCase):
         rows = {number: Row(0, 0, 0, (0,) * 16) for number in range(256)}
         fresh = block({domain: (0xFFFF, 0) for domain in range(16)}, 0, rows)
         lines = {domain: 256 * domain + 15 - domain for domain in range(16)}
-        stream = stepper.parse(fresh + held(lines), Trace(256, 16, 0, ()))
+        stream = parsed(fresh + held(lines), Trace(256, 16, 0, ()))
         self.assertEqual(stream.held, tuple(lines.values()))
-        stream = stepper.parse(fresh + bytes((*[0] * 60, 0x02, 0x01, 0, 0)), Trace(256, 16, 0, ()))
+        stream = parsed(fresh + bytes((*[0] * 60, 0x02, 0x01, 0, 0)), Trace(256, 16, 0, ()))
         self.assertEqual(stream.held, (*[0] * 15, 0x0102))
 
     def test_an_end_that_is_missing_cut_or_too_long(self):
@@ -204,9 +204,9 @@ class Streams(unittest.TestCase):
             (bytes(1), "1 byte"),
             (bytes(60), "60 bytes"),
             (held({})[:-1], "63 bytes"),
-            (held({}) + b"\0", "65 bytes"),
-            (held({}) * 2, "128 bytes"),
-            (case_a.STREAM, "2,204 bytes"),
+            (held({}) + b"\0", "more than 64 bytes"),
+            (held({}) * 2, "more than 64 bytes"),
+            (case_a.STREAM, "more than 64 bytes"),
         ):
             self.assert_misfit(whole + end, trace, f": after its 10 blocks it has {has}, {due}")
         fresh = block({}, 0, {0: Row(0, 0, 0, (0, 0))})
@@ -220,7 +220,7 @@ class Streams(unittest.TestCase):
     def test_more_lines_than_there_is_room_for(self):
         maps, rows = {0: (0b11, 0), 3: (0b10, 0b10)}, {number: Row(0, 0, 0, (0, 0)) for number in range(4)}
         fresh, trace = block(maps, 0, rows), Trace(4, 2, 0, ())
-        self.assertEqual(stepper.parse(fresh + held({0: 8, 3: 4}), trace).held, (8, 0, 0, 4, *[0] * 12))
+        self.assertEqual(parsed(fresh + held({0: 8, 3: 4}), trace).held, (8, 0, 0, 4, *[0] * 12))
         for lines, reason in (
             ({0: 9}, "domain 0 holds 9 lines, and its hit map has room for 8"),
             ({0: 8, 3: 5}, "domain 3 holds 5 lines, and its hit map has room for 4"),
@@ -235,7 +235,7 @@ class Streams(unittest.TestCase):
 
     def assert_misfit(self, data: bytes, trace: Trace, reason: str) -> None:
         with self.assertRaises(MachineFailure, msg=reason) as caught:
-            stepper.parse(data, trace)
+            parsed(data, trace)
         self.assertIn("target/bin/stepper did not give a whole stream of this trace: ", str(caught.exception))
         self.assertIn(reason, str(caught.exception))
 
@@ -250,7 +250,7 @@ class Domains(unittest.TestCase):
         """Give the domain of a step after which a block says it; cores are changed by name, as `core31`."""
         after = {**self.HELD, **{int(name[4:]): record for name, record in changed.items()}}
         stream = block({}, 0, self.ROWS, records=self.HELD) + block({}, domain=said, records=after) + held({})
-        return stepper.parse(stream, Trace(1, 2, 0, (step,))).blocks[1].domain
+        return parsed(stream, Trace(1, 2, 0, (step,))).blocks[1].domain
 
     def assert_refused(self, step: Step, said: int, reason: str, **changed: tuple[int, int, int]) -> None:
         with self.assertRaises(MachineFailure, msg=(step, said)) as caught:
@@ -353,7 +353,7 @@ class Words(unittest.TestCase):
             (Step(1, 1, 64), "domain 1 loads at 0x40"),
             (Step(2, 2, 1 << 32), "domain 2 stores at 0x1_0000_0000"),
             (Step(3, 3, 64), "domain 3 flushes 0x40"),
-            (Step(4, 16, 0x1_0003), "domain 4 asks for hit map 0,1 and fill map way0"),
+            (Step(4, 16, 0x1_0003), "domain 4 asks for hit map 0,1 (0x3) and fill map way0 (0x1)"),
             (Step(5, 16, 0), "domain 5 asks for two empty maps, to be removed"),
             (Step(6, 16, 1 << 40), "domain 6 asks for the policy of argument 0x100_0000_0000"),
             (Step(99, 7, 5), "domain 99 does kind 7 with argument 0x5"),
@@ -427,10 +427,6 @@ class Refusals(unittest.TestCase):
             self.assertTrue(refusal.why.endswith(".") and refusal.fix.endswith("."), number)
             self.assertEqual(refusals.of_number(number), f"{refusal.why} {refusal.fix}")
 
-    def test_a_number_of_no_document(self):
-        for step in (Step(0, 1, 0), Step(0, 33, 0), Step(0, 40, 0)):
-            self.assertEqual(refusals.of_step(77, step, 0), "Number 77 is not one of the documents'.")
-
     def test_geometry(self):
         self.assertIn("rule 0 (tree), 1 (nru) or 2 (lru).", refusals.of_number(1))
 
@@ -448,47 +444,3 @@ class Refusals(unittest.TestCase):
     def test_kinds(self):
         for number, name in (*tracefile.KINDS.items(), *tracefile.CORE_KINDS.items()):
             self.assertIn(f" {number} ({name})", refusals.of_number(4))
-
-    def test_steps_that_name_a_domain(self):
-        for number in range(1, 12):
-            for kind in (0, 3, 16, 36, 255):
-                self.assertEqual(refusals.of_step(number, Step(3, kind, 0xFFFF_FFFF), 3), refusals.of_number(number))
-
-    def test_a_core_that_is_not_in_the_list(self):
-        for kind in (32, 33, 34, 35, 40):
-            said = refusals.of_step(11, Step(32, kind, 0x10), None)
-            listed = "Core 32 is not in the list: the lister lends records for cores 0 to 31."
-            self.assertEqual(said, f"{listed} Name a core from 0 to 31.")
-
-    def test_writes_of_selectors(self):
-        for argument, wrong in (
-            (0x10, "CS would be 16"),
-            (0xFF00, "DS would be 255"),
-            (0x20_0F10, "CS would be 16 and ES would be 32"),
-            (0xFF10_10_11, "CS would be 17 and DS would be 16 and ES would be 16"),
-            (0, "A selector would be 16 or more"),  # no lister refuses it so
-        ):
-            said = f"{wrong}, and a selector names a domain, 0 to 15. Name a domain from 0 to 15 by each of the three."
-            self.assertEqual(refusals.of_step(3, Step(3, 40, argument), None), said)
-        said = refusals.of_step(5, Step(3, 40, 0x100_0000), None)
-        self.assertIn("A byte of the argument other than the three selectors is not zero. Give CS, DS and ES", said)
-
-    def test_accesses_and_flushes_by_cores(self):
-        for kind, selector in ((32, "CS"), (33, "DS"), (34, "ES"), (35, "DS")):
-            step = Step(3, kind, 64)
-            self.assertEqual(
-                refusals.of_step(6, step, 1),
-                "The hit map of domain 1 is empty: it has no ways. "
-                f"Give it ways by a policy step first, or let {selector} of core 3 name a domain that has ways.",
-            )
-            full = "One of the seven counts of domain 1 is 4,294,967,295 and cannot rise."
-            self.assertEqual(refusals.of_step(7, step, 1), f"{full} {self.REMOVE}")
-            self.assertEqual(
-                refusals.of_step(3, step, 77),
-                f"{selector} of core 3 is 77, and a selector names a domain, 0 to 15. "
-                "Write the selectors of core 3 anew, each from 0 to 15.",
-            )
-            for number in (3, 6, 7):  # of a step that was taken for no domain; no lister refuses it so
-                self.assertEqual(refusals.of_step(number, step, None), refusals.of_number(number))
-            for number in (1, 2, 4, 5, 8, 9, 10):
-                self.assertEqual(refusals.of_step(number, step, 1), refusals.of_number(number))

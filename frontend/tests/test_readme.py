@@ -5,10 +5,11 @@ import re
 import unittest
 
 from frontend import __main__ as entry
-from frontend import listing, stepper, text, tracefile, words
+from frontend import listing, text, tracefile, words
 from frontend.assembler import assemble
 from frontend.programs import ROOT
 from frontend.tests import case_a, core_switch, locked_lines
+from frontend.tests.helpers import parsed
 
 README = (ROOT / "README.md").read_text(encoding="utf-8")
 LINK = re.compile(r"\]\(([^)#]+)")
@@ -48,7 +49,7 @@ class Readme(unittest.TestCase):
         self.assertIn(f"\n\n{found}\n\n", (ROOT / "examples" / "verilator" / "README.md").read_text(encoding="utf-8"))
 
     def test_every_word_of_a_listing_is_named(self):
-        for word, count in listing._FIELDS.items():
+        for word, count in ((word, len(names)) for word, names in listing.FIELDS.items()):
             (numbers,) = re.findall(rf"\n\| `{word}` \| ([^|]*?) ?\|", README)
             self.assertEqual(len([number for number in numbers.split(", ") if number]), count, word)
 
@@ -108,7 +109,7 @@ class CoresAndSelectors(unittest.TestCase):
         self.assertTrue(quoted.startswith("6 select 2 2 2\n"))
 
     def test_what_explain_says(self):
-        blocks = stepper.parse(core_switch.STREAM, self.TRACE).blocks
+        blocks = parsed(core_switch.STREAM, self.TRACE).blocks
         self.assertIn(f"of step 7: `{words.route(self.TRACE.steps[7], blocks[8].domain)}`", self.SECTION)
         changed = words.selected(blocks[9].records[3], blocks[10].records[3])
         self.assertIn(f"of step 9: `{changed}`", self.SECTION)
@@ -116,7 +117,7 @@ class CoresAndSelectors(unittest.TestCase):
     def test_what_is_struck_out(self):
         said = "`isolate` strikes out steps 7, 8 and 11 for domain 1, whose own is step 10."
         self.assertIn(said, " ".join(self.SECTION.split()))
-        domains = [block.domain for block in stepper.parse(core_switch.STREAM, self.TRACE).blocks[1:]]
+        domains = [block.domain for block in parsed(core_switch.STREAM, self.TRACE).blocks[1:]]
         self.assertEqual([place for place in range(6, 12) if place in core_switch.STRUCK_PLACES], [7, 8, 11])
         self.assertEqual(domains[10], 1)
 

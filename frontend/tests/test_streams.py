@@ -216,7 +216,7 @@ class Bounds(InFolder):
         self.assertEqual(files.LARGEST_TEXT, 4_194_304)
         for name in ("long.txt", "long"):
             fits = self.file(name, text + b"#" * room)
-            self.assertEqual(files.read_trace(fits), case_a.FILE)
+            self.assertEqual(files.read_trace(fits).data, case_a.FILE)
             self.assertEqual(call("assemble", fits, "-o", "-")[:2], (0, case_a.FILE))
             path = self.file(name, text + b"#" * room + b"\n")
             for arguments in (("assemble", path, "-o", "-"), ("list", path), ("explain", path), ("isolate", path, "0")):

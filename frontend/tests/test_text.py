@@ -95,7 +95,8 @@ class Forms(unittest.TestCase):
 
     def test_canonical_text(self):
         shown = text.show(tracefile.decode(case_a.FILE))
-        expected = "0 policy hit=0,1 fill=0,1\n1 policy hit=2,3 fill=2,3\n0 store 0x0\n0 load 0x40\n"
+        policies = "0 policy hit=0,1 fill=0,1  # 0x3 0x3\n1 policy hit=2,3 fill=2,3  # 0xc 0xc\n"
+        expected = f"{policies}0 store 0x0\n0 load 0x40\n"
         self.assertTrue(shown.startswith("sets 1\nways 4\nrule tree\n\n" + expected), shown)
 
     def test_canonical_text_without_steps(self):

@@ -11,11 +11,9 @@ import unittest
 from dataclasses import replace
 from pathlib import Path
 
-from frontend import cores, crates, helptext, listing, maps, programs, run, stepper, struck, tracefile, words
-from frontend.explain import Explainer
-from frontend.paint import Paint
+from frontend import cores, crates, files, helptext, listing, maps, programs, run, stepper, struck, tracefile, words
 from frontend.tests import balance, case_a, core_switch, highest_first, locked_lines, true_lru
-from frontend.tests.helpers import call, knows_cores, needs_programs, random_trace, start
+from frontend.tests.helpers import call, knows_cores, needs_programs, parsed, random_trace, start, streamed
 from frontend.tracefile import Step, Trace
 
 EXAMPLES = sorted((programs.ROOT / "examples").glob("*.txt"))
@@ -38,6 +36,11 @@ def busy_trace(
     return Trace(source.choice((1, 2, 4, 256)), ways, source.choice(rules), tuple(steps))
 
 
+def blocks_of(taken: run.Run) -> list[stepper.Block]:
+    """Give every block of a run's stream."""
+    return parsed(streamed(tracefile.encode(taken.trace)), taken.trace).blocks
+
+
 def said(data: bytes, name: str, *arguments: str) -> bytes:
     """Write all data to a program's standard input, then give what it writes; a pipe that breaks is an error."""
     command = (programs.BIN / name, *arguments)
@@ -57,7 +60,7 @@ class CaseA(unittest.TestCase):
             self.assertEqual(call(*arguments, stdin=case_a.FILE), (0, case_a.LISTING, ""))
 
     def test_stream(self):
-        self.assertEqual(programs.stepper(case_a.FILE), case_a.STREAM)
+        self.assertEqual(streamed(case_a.FILE), case_a.STREAM)
 
     def test_purge(self):
         whole = run.take("case A", case_a.FILE)
@@ -95,14 +98,14 @@ class TrueLru(unittest.TestCase):
 
     def test_whole_run(self):
         self.assertEqual(call("list", self.EXAMPLE), (0, true_lru.LISTING, ""))
-        self.assertEqual(programs.stepper(true_lru.FILE), true_lru.STREAM)
+        self.assertEqual(streamed(true_lru.FILE), true_lru.STREAM)
 
     def test_struck_out_run(self):
         whole = run.take("true LRU", true_lru.FILE)
         kept = struck.kept(whole, 0, programs.purger(true_lru.FILE, 0))
         self.assertEqual(len(kept.steps), len(whole.trace.steps) - len(true_lru.STRUCK_PLACES))
         data = tracefile.encode(kept)
-        self.assertEqual((programs.lister(data), programs.stepper(data)), (true_lru.STRUCK_LISTING, true_lru.STRUCK_STREAM))
+        self.assertEqual((programs.lister(data), streamed(data)), (true_lru.STRUCK_LISTING, true_lru.STRUCK_STREAM))
 
     def test_isolate(self):
         for domain, order in (("0", "oldest first 2 0 1"), ("1", "oldest first 3"), ("2", "none")):
@@ -124,7 +127,7 @@ class TrueLru(unittest.TestCase):
         source = random.Random(12)
         for _ in range(12):
             trace = busy_trace(source, 100, (2,))
-            blocks = stepper.parse(programs.stepper(tracefile.encode(trace)), trace).blocks
+            blocks = parsed(streamed(tracefile.encode(trace)), trace).blocks
             for row in (row for block in blocks for row in block.rows.values()):
                 self.assertIsNotNone(words.order(row.word, list(range(trace.ways))), row)
 
@@ -137,7 +140,7 @@ class LockedLines(unittest.TestCase):
 
     def test_example(self):
         self.assertEqual(call("list", self.EXAMPLE), (0, locked_lines.LISTING, ""))
-        self.assertEqual(programs.stepper(locked_lines.FILE), locked_lines.STREAM)
+        self.assertEqual(streamed(locked_lines.FILE), locked_lines.STREAM)
 
     def locking_trace(self, source: random.Random, rule: int, domain: int, kinds: tuple[int, ...]) -> Trace:
         ways = source.choice((4, 8, 16))
@@ -152,8 +155,8 @@ class LockedLines(unittest.TestCase):
         source, seen = random.Random(14), 0
         for rule in (0, 1, 2) * 2:
             taken = run.take("random", tracefile.encode(self.locking_trace(source, rule, 0, (0, 1, 2))))
-            word = taken.blocks[0].rows[0].word
-            for block, answer in zip(taken.blocks[1:], taken.listing.answers):
+            word = blocks_of(taken)[0].rows[0].word
+            for block, answer in zip(blocks_of(taken)[1:], taken.listing.answers):
                 before, word = word, block.rows[0].word if block.rows else word
                 if answer.word == "hit" and not block.fill[0] >> answer.fields[0] & 1:
                     seen += 1
@@ -164,9 +167,10 @@ class LockedLines(unittest.TestCase):
         source, seen = random.Random(15), set()
         for rule in (0, 1, 2) * 2:
             taken = run.take("random", tracefile.encode(self.locking_trace(source, rule, 15, (1, 2, 3))))
-            steps = re.split("\nstep [0-9]+ ", "\n".join(Explainer(taken, Paint(False), False).lines()))[1:]
+            _, out, _ = call("explain", "-", stdin=tracefile.encode(taken.trace))
+            steps = re.split("\nstep [0-9]+ ", out.decode())[1:]
             self.assertEqual(len(steps), len(taken.trace.steps))
-            for told, block, answer in zip(steps, taken.blocks, taken.listing.answers):
+            for told, block, answer in zip(steps, blocks_of(taken), taken.listing.answers):
                 found = answer.word in ("hit", "flush")
                 locked = found and not block.fill[15] >> answer.fields[0] & 1
                 self.assertEqual("locked" in told, locked, told)
@@ -183,7 +187,7 @@ class HighestFirst(unittest.TestCase):
 
     def test_example(self):
         self.assertEqual(call("list", self.EXAMPLE), (0, highest_first.LISTING, ""))
-        self.assertEqual(programs.stepper(highest_first.FILE), highest_first.STREAM)
+        self.assertEqual(streamed(highest_first.FILE), highest_first.STREAM)
 
     def candidates(self, rule: int, answer: listing.Answer, fill: int, row: stepper.Row) -> tuple[str, list[int]]:
         """Give what the ways have in common that would do for an answer, and these; none where the highest need not be taken."""
@@ -198,7 +202,7 @@ class HighestFirst(unittest.TestCase):
         for _ in range(24):
             taken = run.take("random", tracefile.encode(busy_trace(source, 300, tops=(63,))))
             rule, rows = taken.trace.rule, {}
-            for before, after, answer in zip(taken.blocks, taken.blocks[1:], taken.listing.answers):
+            for before, after, answer in zip(blocks_of(taken), blocks_of(taken)[1:], taken.listing.answers):
                 rows.update(before.rows)
                 if answer.word in ("fill", "evict"):
                     sort, ways = self.candidates(rule, answer, before.fill[after.domain], rows[after.set])
@@ -216,7 +220,7 @@ class Balance(unittest.TestCase):
 
     def test_example(self):
         self.assertEqual(call("list", str(self.EXAMPLE)), (0, balance.LISTING, ""))
-        self.assertEqual(programs.stepper(balance.FILE), balance.STREAM)
+        self.assertEqual(streamed(balance.FILE), balance.STREAM)
 
     def test_explain(self):
         status, out, _ = call("explain", str(self.EXAMPLE))
@@ -232,15 +236,15 @@ class Balance(unittest.TestCase):
         for place, due in said.items():
             taken = run.take("a beginning", tracefile.encode(replace(whole, steps=whole.steps[: place + 1])))
             domain = whole.steps[place].named
-            self.assertEqual(words.balance(taken.listing.counts[domain], taken.stream.held[domain]), due, place)
+            self.assertEqual(words.balance(taken.listing.counts[domain], taken.held[domain]), due, place)
 
     def test_lines_held_are_those_of_the_rows(self):
         source, seen = random.Random(19), set()
         for _ in range(12):
             taken = run.take("random", tracefile.encode(busy_trace(source, 200)))
-            rows = stepper.rows_at_end(taken.blocks).values()
-            due = tuple(sum(len(maps.members(row.valid & hit)) for row in rows) for hit in taken.blocks[-1].hit)
-            self.assertEqual(taken.stream.held, due)
+            rows = stepper.rows_at_end(blocks_of(taken)).values()
+            due = tuple(sum(len(maps.members(row.valid & hit)) for row in rows) for hit in blocks_of(taken)[-1].hit)
+            self.assertEqual(taken.held, due)
             seen.update(due)
         self.assertGreater(len(seen), 3)
 
@@ -248,7 +252,7 @@ class Balance(unittest.TestCase):
         """Count a domain's lines in and lines out by the answers to its steps since it was last removed."""
         lines = {"fill": 0, "evict": 0, "flush": 0, "policy": 0}
         for place, (step, answer) in enumerate(zip(taken.trace.steps, taken.listing.answers)):
-            if taken.domain(place) == domain and answer.word in lines:
+            if taken.domains[place] == domain and answer.word in lines:
                 lines[answer.word] += answer.fields[0] if answer.word == "policy" else 1
                 if answer.word == "policy" and step.argument == 0:
                     lines = dict.fromkeys(lines, 0)
@@ -285,7 +289,7 @@ class CoreSwitch(unittest.TestCase):
 
     def test_whole_run(self):
         self.assertEqual(call("list", self.EXAMPLE), (0, core_switch.LISTING, ""))
-        self.assertEqual(programs.stepper(core_switch.FILE), core_switch.STREAM)
+        self.assertEqual(streamed(core_switch.FILE), core_switch.STREAM)
 
     def test_struck_out_run(self):
         whole = run.take("core switch", core_switch.FILE)
@@ -294,7 +298,7 @@ class CoreSwitch(unittest.TestCase):
         self.assertEqual(kept.steps, due)
         data = tracefile.encode(kept)
         self.assertEqual(programs.lister(data), core_switch.STRUCK_LISTING)
-        self.assertEqual(programs.stepper(data), core_switch.STRUCK_STREAM)
+        self.assertEqual(streamed(data), core_switch.STRUCK_STREAM)
 
     def test_isolate(self):
         for domain, gone, by_core in (("0", 10, 9), ("1", 6, 5), ("2", 6, 6), ("3", 11, 10)):
@@ -362,7 +366,7 @@ class Cores(unittest.TestCase):
             taken = run.take("random", tracefile.encode(busy_trace(source, 300, tops=(3, 63))))
             plain, due = [], []
             for place, (step, answer) in enumerate(zip(taken.trace.steps, taken.listing.answers)):
-                domain = taken.domain(place)
+                domain = taken.domains[place]
                 if domain is not None:
                     plain.append(Step(domain, step.kind - 32, step.argument) if step.by_core else step)
                     due.append(answer)
@@ -370,7 +374,7 @@ class Cores(unittest.TestCase):
             again = run.take("plain", tracefile.encode(replace(taken.trace, steps=tuple(plain))))
             self.assertEqual(list(again.listing.answers), due)
             self.assertEqual(again.listing.counts, taken.listing.counts)
-            self.assertEqual(stepper.rows_at_end(again.blocks), stepper.rows_at_end(taken.blocks))
+            self.assertEqual(stepper.rows_at_end(blocks_of(again)), stepper.rows_at_end(blocks_of(taken)))
         found = {(kind, word) for kind in (32, 33, 34) for word in ("hit", "fill", "evict", "pass", "refused")}
         self.assertLessEqual(found | {(35, "flush"), (35, "absent")}, seen)
 
@@ -379,8 +383,8 @@ class Cores(unittest.TestCase):
         for _ in range(12):
             taken = run.take("random", tracefile.encode(busy_trace(source, 200)))
             records = [(0, 0, 0)] * 32
-            self.assertEqual(taken.blocks[0].records, tuple(records))
-            for step, answer, block in zip(taken.trace.steps, taken.listing.answers, taken.blocks[1:]):
+            self.assertEqual(blocks_of(taken)[0].records, tuple(records))
+            for step, answer, block in zip(taken.trace.steps, taken.listing.answers, blocks_of(taken)[1:]):
                 if answer.word == "select":
                     self.assertEqual((step.kind, cores.split(step.argument)), (40, answer.fields))
                     records[step.named] = answer.fields
@@ -500,6 +504,20 @@ class Examples(unittest.TestCase):
         self.assertEqual((status, visited), (0, re.findall("# ([0-9]+ ways?)", path.read_text(encoding="ascii"))))
         self.assertEqual([int(said.split()[0]) for said in visited], [4, 4, 4, 4, 1, 3, 2, 3, 4, 2, 2, 2])
 
+    def test_all_domains_and_their_struck_out_traces(self):
+        with tempfile.TemporaryDirectory() as folder:
+            for path in EXAMPLES:
+                whole = run.take("example", files.read_trace(str(path)).data)
+                target = f"{folder}/{path.stem}-{{domain}}.txt"
+                status, out, err = call("isolate", str(path), "--all", "-o", target)
+                used = sorted({domain for domain in whole.domains if domain is not None and domain < 16})
+                found = re.findall(r"^domain ([0-9]+): .* struck out: no difference$", out.decode(), re.MULTILINE)
+                self.assertEqual((status, err, list(map(int, found))), (0, "", used))
+                for domain in used:
+                    kept = struck.kept(whole, domain, programs.purger(tracefile.encode(whole.trace), domain))
+                    written = files.read_trace(target.replace("{domain}", str(domain))).data
+                    self.assertEqual(written, tracefile.encode(kept))
+
     def test_isolate_and_explain(self):
         for path in EXAMPLES:
             for domain in range(4):
@@ -524,7 +542,7 @@ class Random(unittest.TestCase):
         source = random.Random(8)
         for _ in range(12):
             taken = run.take("random", tracefile.encode(busy_trace(source, 100)))
-            held = [domain for domain, word in enumerate(taken.blocks[-1].hit) if word]
+            held = [domain for domain, word in enumerate(blocks_of(taken)[-1].hit) if word]
             self.assertEqual(list(taken.listing.counts), held)
 
     def test_refused_steps_change_nothing(self):
@@ -532,7 +550,7 @@ class Random(unittest.TestCase):
         for _ in range(12):
             taken = run.take("random", tracefile.encode(busy_trace(source, 100)))
             for place, answer in enumerate(taken.listing.answers):
-                before, after = taken.blocks[place], taken.blocks[place + 1]
+                before, after = blocks_of(taken)[place], blocks_of(taken)[place + 1]
                 if answer.word == "refused":
                     self.assertEqual((after.hit, after.fill, after.rows), (before.hit, before.fill, {}))
                     self.assertEqual(after.records, before.records)
@@ -541,14 +559,14 @@ class Random(unittest.TestCase):
         source, hits = random.Random(13), []
         for _ in range(12):
             taken = run.take("random", tracefile.encode(busy_trace(source, 200, tops=(3,))))
-            due, domains = [0], (block.domain for block in taken.blocks[1:])
-            for block, domain, answer in zip(taken.blocks, domains, taken.listing.answers):
+            due, domains = [0], (block.domain for block in blocks_of(taken)[1:])
+            for block, domain, answer in zip(blocks_of(taken), domains, taken.listing.answers):
                 ways = [] if answer.word in ("policy", "select", "refused") else maps.members(block.hit[domain])
                 if answer.word in ("hit", "flush"):
                     ways = ways[: ways.index(answer.fields[0]) + 1]
                     hits.append(len(ways))
                 due.append(len(ways))
-            self.assertEqual([block.visited for block in taken.blocks], due)
+            self.assertEqual([block.visited for block in blocks_of(taken)], due)
         self.assertGreater(max(hits), 3)
 
     def test_any_trace_is_listed(self):
@@ -556,17 +574,17 @@ class Random(unittest.TestCase):
         for _ in range(20):
             data = tracefile.encode(random_trace(source, 30))
             listed = listing.parse(programs.lister(data))
-            stream = programs.stepper(data)
+            stream = streamed(data)
             self.assertIn(listed.refused, (None, 1))
             self.assertEqual(stream == b"", listed.refused == 1)
             if stream:
-                stepper.parse(stream, tracefile.decode(data))
+                parsed(stream, tracefile.decode(data))
 
     def test_files_refused_by_ten(self):
         many = (tracefile.encode(Trace(sets, 4, 0, (Step(0, 16, 0x30003),))) for sets in (257, 512, 4096, 65_535))
         for data in (b"", b"1234567", case_a.FILE[:-1], case_a.FILE + b"\0", *many):
             self.assertEqual((programs.lister(data), programs.parts(data)), (b"refused 10\n", b"refused 10\n"))
-            self.assertEqual((programs.purger(data, 0), programs.stepper(data)), (b"", b""))
+            self.assertEqual((programs.purger(data, 0), streamed(data)), (b"", b""))
 
     def test_pass_through(self):
         data = tracefile.encode(busy_trace(random.Random(11), 500))

@@ -4,7 +4,7 @@ from __future__ import annotations
 import struct
 
 from frontend.stepper import Row
-from frontend.tests.helpers import block, held
+from frontend.tests.helpers import block, held, with_counts
 
 _CODES = bytes((0, 16, 1, 16, 0, 1, 0, 1, 0, 1, 0, 1, 1, 2, 0, 1, 1, 1, 0, 16, 0, 1, 0, 16, 0, 1))
 _ARGUMENTS = (0x0007_0007, 0x0008_0008, 0, 64, 128, 0, 0, 192, 0, 0x0001_0007, 192, 0x0007_0007, 256)
@@ -43,18 +43,17 @@ _MADE = (  # up to step 5, which both runs have
     block(_BOTH, 0, {0: Row(0b0111, 0, 0x3102, (2, 1, 0, 0))}, 3, 0),
 )
 _MOVED = {0: Row(0b1111, 0b1000, 0x1203, (2, 3, 0, 0))}
-STREAM = b"".join(
-    (
-        *_MADE,
-        block(_BOTH, 0, {0: Row(0b1111, 0b1000, 0x1023, (2, 1, 0, 0))}, 1, 1),
-        block(_BOTH, 0, {0: Row(0b1111, 0b1000, 0x0231, (2, 3, 0, 0))}, 3, 0),
-        block(_BOTH, 0, {0: Row(0b1111, 0b1000, 0x0213, (2, 3, 0, 0))}, 1, 1),
-        block(_LOCKED, 0, _MOVED, 0, 0),
-        block(_LOCKED, 0, _MOVED, 2, 0),
-        block(_BOTH, 0, _MOVED, 0, 0),
-        block(_BOTH, 0, {0: Row(0b1111, 0b1000, 0x2031, (2, 4, 0, 0))}, 3, 0),
-        held({0: 3, 1: 1}),
-    )
+STREAM = with_counts(
+    LISTING,
+    *_MADE,
+    block(_BOTH, 0, {0: Row(0b1111, 0b1000, 0x1023, (2, 1, 0, 0))}, 1, 1),
+    block(_BOTH, 0, {0: Row(0b1111, 0b1000, 0x0231, (2, 3, 0, 0))}, 3, 0),
+    block(_BOTH, 0, {0: Row(0b1111, 0b1000, 0x0213, (2, 3, 0, 0))}, 1, 1),
+    block(_LOCKED, 0, _MOVED, 0, 0),
+    block(_LOCKED, 0, _MOVED, 2, 0),
+    block(_BOTH, 0, _MOVED, 0, 0),
+    block(_BOTH, 0, {0: Row(0b1111, 0b1000, 0x2031, (2, 4, 0, 0))}, 3, 0),
+    held({0: 3, 1: 1}),
 )
 
 STRUCK_PLACES = (6, 8)
@@ -75,16 +74,15 @@ domain 0 2 5 2 0 0 5 0
 domain 1 0 0 0 0 0 0 0
 """
 _STRUCK_MOVED = {0: Row(0b0111, 0, 0x1230, (2, 3, 0, 0))}
-STRUCK_STREAM = b"".join(
-    (
-        *_MADE,
-        block(_BOTH, 0, {0: Row(0b0111, 0, 0x3021, (2, 3, 0, 0))}, 3, 0),
-        block(_LOCKED, 0, _STRUCK_MOVED, 0, 0),
-        block(_LOCKED, 0, _STRUCK_MOVED, 2, 0),
-        block(_BOTH, 0, _STRUCK_MOVED, 0, 0),
-        block(_BOTH, 0, {0: Row(0b0111, 0, 0x2301, (2, 4, 0, 0))}, 3, 0),
-        held({0: 3}),
-    )
+STRUCK_STREAM = with_counts(
+    STRUCK_LISTING,
+    *_MADE,
+    block(_BOTH, 0, {0: Row(0b0111, 0, 0x3021, (2, 3, 0, 0))}, 3, 0),
+    block(_LOCKED, 0, _STRUCK_MOVED, 0, 0),
+    block(_LOCKED, 0, _STRUCK_MOVED, 2, 0),
+    block(_BOTH, 0, _STRUCK_MOVED, 0, 0),
+    block(_BOTH, 0, {0: Row(0b0111, 0, 0x2301, (2, 4, 0, 0))}, 3, 0),
+    held({0: 3}),
 )
 WORDS = 0x2031, 0x2301  # at the end of either run
 OWN = b"513\n"  # 0x201: of the fill ways of domain 0, in either run way 2 is the oldest and way 1 the most recent
