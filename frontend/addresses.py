@@ -18,6 +18,7 @@ _NUMBERS = {name: number for number, name in KINDS.items()}
 _FETCH, _LOAD, _STORE, _FLUSH = (_NUMBERS[name] for name in ("fetch", "load", "store", "flush"))
 _TOO_LARGE = f"has more than 64 bits; the largest address is {hexadecimal(LARGEST_ARGUMENT)}"
 _ZERO = b"\0"
+_PACKED = "if the file is packed, unpack it first"
 _COMMENT = "#"
 _MESSAGES = "==", "--"  # how valgrind's own lines begin
 
@@ -109,7 +110,7 @@ def _split(pieces: Iterable[bytes]) -> Iterator[bytes]:
 def _why_no_text(raw: bytes) -> str | None:
     """Say why a line cannot be read in any form; None if it can."""
     if raw == _ZERO:
-        return "a zero byte: this is no UTF-8 text, as an address trace is; nothing after it was read"
+        return f"a zero byte, and an address trace is UTF-8 text; {_PACKED}; nothing after it was read"
     if len(raw) > LONGEST:
         return f"the line has more than {LONGEST:,} bytes; one access stands on a line"
     if b"\r" in raw.strip():
@@ -117,7 +118,7 @@ def _why_no_text(raw: bytes) -> str | None:
     try:
         raw.decode()
     except UnicodeDecodeError as error:
-        return f"byte {raw[error.start]:#04x} is not UTF-8 text; if the file is packed, unpack it first"
+        return f"byte {raw[error.start]:#04x} is not UTF-8 text; {_PACKED}"
     return None
 
 
@@ -206,7 +207,7 @@ def _read_csv(lines: Lines) -> Iterator[tuple[int, int]]:
         elif first and _named(cells) != ([], []):
             columns = tuple(places[0] for places in _named(cells) if len(places) == 1)
             if len(columns) != len(_CSV_HEADS):
-                lines.refuse(number, f"this head does not name {_CSV_COLUMNS}; nothing after it was read")
+                lines.refuse(number, _why_not_head(_named(cells)))
                 return
         else:
             lines.refuse(number, _why_not_csv(cells, columns) + (f"; a head names {_CSV_COLUMNS}" if first else ""))
@@ -222,6 +223,12 @@ def _named(cells: list[str]) -> tuple[list[int], ...]:
     """List the places of the cells that name a column of kinds, and of those that name one of addresses."""
     words = [cell.strip().lower() for cell in cells]
     return tuple([place for place, word in enumerate(words) if word in names] for names in _CSV_HEADS)
+
+
+def _why_not_head(named: tuple[list[int], ...]) -> str:
+    """Say what is wrong with a first line that names columns, but not one of each."""
+    found = " and ".join(f"{len(places)} of the columns {', '.join(names)}" for places, names in zip(named, _CSV_HEADS))
+    return f"this head names {found}; it has to name one of each; nothing after it was read"
 
 
 def _access(cells: list[str], columns: tuple[int, ...]) -> tuple[int, int] | None:

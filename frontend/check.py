@@ -32,7 +32,7 @@ _SHARED_NODE = Reading("refused", (9,))  # the answer whose reason the program `
 
 
 class Difference(NamedTuple):
-    """What differs: of what and how, the number of the step or domain, what is expected, the line, and the one before a second."""
+    """What differs: of what and how, the number of the step or domain, what is expected, the line, and the first of its kind."""
 
     of: str
     how: str
@@ -54,7 +54,7 @@ class Difference(NamedTuple):
 
 
 class Checked(NamedTuple):
-    """All differences, in the order of the run; the first line for each step; the refused steps that need no line and have none."""
+    """All differences, in the order of the run; the first line for each step; refused steps that need no line and have none."""
 
     differences: list[Difference]
     said: dict[int, Entry]
@@ -83,7 +83,8 @@ def check_arguments(args: argparse.Namespace) -> None:
     if args.file == files.STREAM and args.log == files.STREAM:
         raise BadInput("FILE and LOG cannot both be standard input; name a file for one of them")
     if len({form.has_place for form in args.format}) > 1:
-        raise BadInput("one --format has {place} and another has not; put it into all, or into none if the lines are in the steps' order")
+        right = "put it into all, or into none if the lines are in the steps' order"
+        raise BadInput(f"one --format has {{place}} and another has not; {right}")
 
 
 def compare(listed: Listing, log: Log, without_refused: bool) -> Checked:
@@ -113,7 +114,7 @@ def _expected(listed: Listing) -> dict[tuple[str, int], Reading]:
 
 
 def _numbered(entries: list[Entry], steps: int, refused: set[int]) -> Iterator[tuple[str, int, Entry]]:
-    """Give each line with what it is of, and its number; a line that does not say which step it is of is that of the next one."""
+    """Give each line with what it is of, and its number; a line that does not say of which step is that of the next one."""
     given = itertools.chain((place for place in range(steps) if place not in refused), itertools.count(steps))
     for entry in entries:
         yield entry.of, next(given) if entry.number is None else entry.number, entry
@@ -202,8 +203,7 @@ class Report:
         if scene and scene.told.route:
             yield f"  {scene.told.route}"
         yield "  expected  " + paint("green", str(difference.expected or _NO_LINE))
-        if scene:
-            yield from textwrap.wrap(scene.told.said, _WIDTH, initial_indent=_INDENT, subsequent_indent=_INDENT)
+        yield from textwrap.wrap(_meaning(difference, scene), _WIDTH, initial_indent=_INDENT, subsequent_indent=_INDENT)
         yield "  found     " + paint("red", str(difference.found or _NO_LINE)) + _again(difference)
         if scene:
             yield from self._before(scene, paint)
@@ -261,7 +261,9 @@ class Report:
     def _sum(self) -> Iterator[str]:
         """Say how many lines agree, differ and are missing, and what was not compared."""
         found, lines = self._found, len(self._log.entries)
-        yield f"{lines - found.differing:,} of {counted(lines, 'line')} agree; {found.differing:,} different, {found.missing:,} missing"
+        agreed = lines - found.differing
+        agree = f"{agreed:,} of {counted(lines, 'line')} {'agrees' if agreed == 1 else 'agree'}"
+        yield f"{agree}; {found.differing:,} different, {found.missing:,} missing"
         more = len(found.differences) - len(self._told)
         if more:
             yield f"{counted(more, 'more difference')}; --max {len(found.differences)} tells all"
@@ -271,8 +273,8 @@ class Report:
         if partly:
             yield f"{counted(partly, 'line')} compared in part: the form does not have all numbers of the word"
         if self._log.strange:
-            first = self._log.strange[0]
-            yield f"{counted(len(self._log.strange), 'line')} passed over, the first: {self._log.name}:{first}: {self._log.line(first)}"
+            first, passed = self._log.strange[0], counted(len(self._log.strange), "line")
+            yield f"{passed} passed over, the first: {self._log.name}:{first}: {self._log.line(first)}"
 
     def _verdict(self) -> str:
         """Say in a line whether the log agrees."""
@@ -305,6 +307,13 @@ class Report:
         """Give a step behind one that differs as an object."""
         step, found = records.step(self._trace.steps[place]), entry.reading if entry else None
         return {"place": place, "step": step, "expected": _reading(STEP, expected), "found": _reading(STEP, found)}
+
+
+def _meaning(difference: Difference, scene: Scene | None) -> str:
+    """Say what is expected in words; nothing if that is no answer to a step and no domain line."""
+    if difference.of == DOMAIN and difference.expected:
+        return words.counts(Counts(*difference.expected.values[1:]))
+    return scene.told.said if scene else ""
 
 
 def _again(difference: Difference) -> str:

@@ -14,13 +14,12 @@ from frontend import addresses, files, maps, streams, text, tracefile, words
 from frontend.errors import DONE, BadInput, MachineFailure, reason
 from frontend.numbers import counted
 from frontend.quote import quoted
-from frontend.tracefile import MAX_SETS, POLICY, RULES, Step, Trace
+from frontend.tracefile import MAX_SETS, NUMBERS_OF_WAYS, POLICY, RULES, Step, Trace
 
 ROOM = tracefile.MAX_STEPS - 1  # accesses of a window; its first step is the policy change
 WINDOW = "{window}"  # what stands in a file's name for the number of a window
 _PIECE = 1 << 18  # bytes of an address trace that are read at a time
 _SETS = tuple(1 << power for power in range(MAX_SETS.bit_length()))
-_WAYS = (2, 4, 8, 16)
 _RULE_NUMBERS = {**{name: number for number, name in RULES.items()}, "tree-plru": 0}
 
 
@@ -43,7 +42,7 @@ class Head:
 
     def told(self) -> str:
         """Say the geometry, the domain and its maps."""
-        owner = f"domain {self.domain} (hit {maps.write(self.hit)}, fill {maps.write(self.fill)})"
+        owner = f"domain {self.domain} with hit map {maps.both(self.hit)} and fill map {maps.both(self.fill)}"
         return f"{words.geometry(self.trace(()))}, {owner}"
 
 
@@ -124,7 +123,7 @@ def _convert_all(args: argparse.Namespace, head: Head, windows: Windows) -> int:
 
 @contextlib.contextmanager
 def _kept(name: str) -> Iterator[BinaryIO]:
-    """Make a temporary file in the folder of another, where there has to be room anyway. It has no name, so nothing is left of it."""
+    """Make a temporary file in the folder of another, where there has to be room anyway. It has no name, and leaves nothing."""
     try:
         with tempfile.TemporaryFile(dir=os.path.dirname(name) or os.curdir) as file:
             yield file
@@ -176,7 +175,7 @@ def _head(args: argparse.Namespace) -> Head:
     if fill & ~hit:
         outside = maps.members(fill & ~hit)[0]
         right = "a domain fills only where it hits"
-        args.refuse(f"argument --fill: way {outside} is not in the hit map, {maps.write(hit)}; {right}")
+        args.refuse(f"argument --fill: way {outside} is not in the hit map, {maps.both(hit)}; {right}")
     return Head(args.sets, args.ways, args.rule, args.domain, hit, fill)
 
 
@@ -188,7 +187,7 @@ def read_sets(word: str) -> int:
 
 def read_ways(word: str) -> int:
     """Read the option that says the number of ways."""
-    return _known(word, {str(number): number for number in _WAYS}, f"the number of ways is {_either(map(str, _WAYS))}")
+    return _known(word, {str(number): number for number in NUMBERS_OF_WAYS}, f"the number of ways is {_either(map(str, NUMBERS_OF_WAYS))}")
 
 
 def read_rule(word: str) -> int:

@@ -12,7 +12,7 @@ READER_GONE = 141  # as a shell reports a program that ended by SIGPIPE
 MEANINGS = {
     DONE: "done",
     DIFFERENCE: "isolate or check found a difference; nothing else gives this status",
-    BAD_INPUT: "bad input: the command line, a trace text, or a file that is refused as a whole",
+    BAD_INPUT: "bad input: the command line, a trace text, a log, an address trace, or a file that is refused as a whole",
     MACHINE_FAILED: "something could not be read, written, run or built, or a program's output is not whole",
     FAULT: "a fault in the front end itself; DIPPERLOCK_DEBUG=1 shows more",
     INTERRUPTED: "interrupted by Ctrl-C",

@@ -78,8 +78,8 @@ def read_log(name: str) -> bytes:
         data = streams.read_up_to(stream, LARGEST_LOG + 1)
     if len(data) > LARGEST_LOG:
         share = f"{LARGEST_LOG // tracefile.MAX_STEPS:,} for each of the {tracefile.MAX_STEPS:,} steps that a trace can have"
-        hint = "keep those of its lines that are of the cache, with grep for instance"
-        raise BadInput(f"{title(name)} has more than {LARGEST_LOG:,} bytes, the most that a log may have ({share}); {hint}")
+        most = f"more than {LARGEST_LOG:,} bytes, the most that a log may have ({share})"
+        raise BadInput(f"{title(name)} has {most}; keep those of its lines that are of the cache, with grep for instance")
     return data
 
 

@@ -7,10 +7,9 @@ from collections.abc import Iterator
 
 from frontend import culprits
 from frontend.assembler import Assembled
-from frontend.tracefile import MAX_SETS, RULES, Trace
+from frontend.tracefile import MAX_SETS, NUMBERS_OF_WAYS, RULES, Trace
 
 MOST_SHOWN = 20
-WAYS = (2, 4, 8, 16)
 
 
 def of(read: Assembled) -> Iterator[str]:
@@ -33,7 +32,7 @@ def outside(trace: Trace) -> Iterator[tuple[str, str]]:
     sets = trace.sets
     if not 1 <= sets <= MAX_SETS or sets & (sets - 1):
         yield "sets", f"{sets} sets; the number of sets is a power of two from 1 to {MAX_SETS}"
-    if trace.ways not in WAYS:
+    if trace.ways not in NUMBERS_OF_WAYS:
         yield "ways", f"{trace.ways} ways; the number of ways is 2, 4, 8 or 16"
     if trace.rule not in RULES:
         yield "rule", f"rule {trace.rule}; rules are {', '.join(f'{number} ({name})' for number, name in RULES.items())}"

@@ -180,9 +180,8 @@ A trace file holds 4,096 steps, so the accesses are cut into windows: a policy
 change that gives the domain its maps, and up to 4,095 accesses. Each starts from a
 fresh cache. Windows and accesses are counted from 0: window N has accesses 4,095 x
 N to 4,095 x N + 4,094. Without --window it is window 0 that is written. {window} in
-OUT writes each to its own file, with its number in that place, as soon as all of
-FILE has been read; so long they are kept in a temporary file without a name beside
-OUT.
+OUT writes each to its own file, with its number in that place, when all of FILE has
+been read; until then they are kept in a temporary file without a name beside OUT.
 
 MAP is as in a trace text: 0,1 or 0-3, one way such as way3, a mask such as 0x3, or
 none. All of its ways are below --ways, and those of --fill are in --hit. With
@@ -275,8 +274,7 @@ EXAMPLES = {
         "./dipperlock explain examples/balance.txt --domain 0 --word evict --json",
     ),
     "check": (
-        "./dipperlock check examples/case-a.txt examples/rtl/case-a.log --without-refused"
-        " --format 't={any} CACHE step={place} {word} {fields}'",
+        "./dipperlock check examples/case-a.txt examples/rtl/case-a.log --format 't={any} CACHE step={place} {word} {fields}'",
     ),
     "state": ("./dipperlock state examples/case-a.txt --after 5", "./dipperlock state examples/case-a.txt --before 0 --json"),
     "plot": (

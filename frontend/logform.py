@@ -1,4 +1,4 @@
-"""The log of a simulation: the forms that its lines have, and what each line says of a step, of a domain or of the whole trace."""
+"""The log of a simulation: the forms that its lines have, and what each line says of a step, a domain or the whole trace."""
 from __future__ import annotations
 
 import re
@@ -109,20 +109,20 @@ class Form:
         except _Misfit:
             return None
 
-    def misfit(self, written: str, code: str) -> tuple[int, str]:
-        """Say up to where a line that is not of this form fits it, and what is wrong there."""
+    def misfit(self, written: str, code: str) -> tuple[int, int, str]:
+        """Say of a line that is not of this form how much of it fits, where the fault lies, and what it is."""
         text = self._text(written, code)
         wrong = self.wrong_numbers(text)
         if wrong is not None:
-            return wrong
+            return (len(text) + 1, *wrong)
         for count in range(len(self._parts), 0, -1):
             match = re.match("".join(self._patterns[:count]), text)
             if match is not None:
-                return match.end(), f"here should stand {self._due(count)}"
-        return 0, f"here should stand {self._due(0)}"
+                return match.end(), match.end(), f"here should stand {self._due(count)}"
+        return 0, 0, f"here should stand {self._due(0)}"
 
     def wrong_numbers(self, text: str) -> tuple[int, str] | None:
-        """Say where the numbers stand of a line that has not those of its word, and what is wrong; None if that is not the matter."""
+        """Say where the numbers stand of a line that has not those of its word, and what is wrong; None if it is not that."""
         match = self._pattern.fullmatch(text)
         try:
             if match is not None:
@@ -132,7 +132,7 @@ class Form:
         return None
 
     def _text(self, written: str, code: str) -> str:
-        """Give what is to fit of a line: the part before a comment, unless the form has such a `#` itself; nothing of a long line."""
+        """Give what is to fit of a line: all before a comment, or all if the form has such a `#`; nothing of a long line."""
         text = written if self._has_hash else code
         return text if len(text) <= LONGEST else ""
 
@@ -181,7 +181,8 @@ def _take_apart(text: str) -> list[_Part]:
     for token in _TOKEN.finditer(text):
         name, written = token["name"], token[0]
         if token["stray"]:
-            raise BadForm(text, f"the '{written}' at character {token.start() + 1} stands alone; write '{written * 2}' for a brace.")
+            where = f"the '{written}' at character {token.start() + 1}"
+            raise BadForm(text, f"{where} stands alone; write '{written * 2}' for a brace.")
         if name is not None and name not in _PLACEHOLDERS:
             meant = close_to(name, _PLACEHOLDERS)
             raise BadForm(text, unknown("placeholder", written, meant and f"{{{meant}}}", "").rstrip())
@@ -197,14 +198,15 @@ def _take_apart(text: str) -> list[_Part]:
 
 def _check_names(text: str, parts: list[_Part], names: list[str]) -> None:
     """Raise a BadForm for a form whose placeholders do not go together."""
-    twice = [name for name in names if names.count(name) > 1 and name != _ANY]
+    twice = [name for name in _PLACEHOLDERS if names.count(name) > 1 and name != _ANY]
     single = [name for name in names if name in _NAMED]
     if twice:
         raise BadForm(text, f"{{{twice[0]}}} stands there twice; only {{any}} may.")
     if _WORD not in names:
         raise BadForm(text, "there is no {word}, the word of the answer, without which nothing can be compared.")
     if _ALL in names and single:
-        raise BadForm(text, f"{{fields}} stands for all numbers of the answer, and {{{single[0]}}} for one of them; keep either.")
+        one = f"{{{single[0]}}} for one of them"
+        raise BadForm(text, f"{{fields}} stands for all numbers of the answer, and {one}; keep either.")
     if _REST in names and parts[-1].kind != _REST:
         raise BadForm(text, "something stands behind {rest}, which goes to the end of the line.")
 
@@ -213,11 +215,13 @@ def _check_neighbours(text: str, parts: list[_Part]) -> None:
     """Raise a BadForm for a form whose parts could not be told from each other in a line."""
     for left, right in zip(parts, parts[1:]):
         if left.is_placeholder and right.is_placeholder and right.kind != _REST:
-            raise BadForm(text, f"nothing tells where {left.text} ends and {right.text} begins; write what the log has between them.")
+            where = f"where {left.text} ends and {right.text} begins"
+            raise BadForm(text, f"nothing tells {where}; write what the log has between them.")
         if left.kind == _TEXT and left.text.lower().endswith("0x") and right.kind in (_PLACE, _ALL, *_NAMED):
             raise BadForm(text, f"{right.text} stands for the whole number, its 0x too; leave the 0x before it out.")
     if any(word.count("{any}") > MOST_ANY for word in text.split()):
-        raise BadForm(text, f"{{any}} stands more than {MOST_ANY} times without a blank; one {{any}} takes all that has no blank.")
+        often = f"{{any}} stands more than {MOST_ANY} times without a blank"
+        raise BadForm(text, f"{often}; one {{any}} takes all that has none.")
 
 
 def _patterns(parts: list[_Part]) -> Iterator[str]:
@@ -270,7 +274,7 @@ class Log(Source):
         self.strange: list[int] = []
         for number, text in enumerate(self.lines, 1):
             written, code = _stripped(text)
-            entry = self._read(number, written, code)
+            entry = self._read(number, written, code) if written else None
             if entry is not None:
                 self.entries.append(entry)
             elif code:
@@ -310,8 +314,8 @@ class Log(Source):
         if not self._forms:
             _, what = _STEP_LINE.wrong_numbers(code) or (0, _LINES_ARE)
             return Problem(number, start, len(code), f"this is no line of a listing: {what}")
-        end, what = max((form.misfit(written, code) for form in self._forms), key=lambda misfit: misfit[0])
-        return Problem(number, start + end, 1, f"this line fits no form: {what}")
+        _, at, what = max((form.misfit(written, code) for form in self._forms), key=lambda misfit: misfit[0])
+        return Problem(number, start + at, 1, f"this line fits no form: {what}")
 
 
 def _stripped(text: str) -> tuple[str, str]:

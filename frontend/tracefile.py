@@ -9,6 +9,7 @@ from frontend.numbers import counted
 
 MAX_STEPS = 4096
 MAX_SETS = 256
+NUMBERS_OF_WAYS = (2, 4, 8, 16)
 SETS_LIMIT = f"a trace file holds at most {MAX_SETS} sets (calls of the proved library take up to 4,096)"
 POLICY = 16
 KINDS = {0: "fetch", 1: "load", 2: "store", 3: "flush", POLICY: "policy"}

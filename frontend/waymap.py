@@ -2,7 +2,7 @@
 from __future__ import annotations
 
 from frontend import hatching, svg
-from frontend.frame import BEHIND, INK, PAPER, PLAIN, SMALL, SOFT, WIDTH, Frame, label, row_title
+from frontend.frame import BEHIND, INK, MARGIN, PAPER, PLAIN, SMALL, SOFT, WIDTH, Frame, label, row_title
 from frontend.numbers import counted
 from frontend.plot import Holder, Refusal, Series, Stretch
 
@@ -29,7 +29,7 @@ def bands(series: Series, frame: Frame, top: float) -> str:
         drawn.append(svg.element("rect", class_="way", data_way=way, **at, fill=PAPER, stroke="#d0d0d0", stroke_width=_THIN))
         drawn.append(row_title(f"way {way}", y + 12.3))
         told = {"class_": "owner", "data_way": way, "fill": INK if holders[way] else SOFT}
-        room = WIDTH - frame.right - BEHIND - 4
+        room = WIDTH - frame.right - BEHIND - MARGIN
         drawn.append(label(svg.shortened(owners(holders[way]), SMALL, room), frame.right + BEHIND, y + 12.3, SMALL, **told))
     return "".join(drawn)
 

@@ -34,10 +34,10 @@ def _why_not(value: object, schema: dict, where: str) -> str | None:
     assert not unknown, unknown
     if "$ref" in schema:
         return _why_not(value, SCHEMA["$defs"][schema["$ref"].rpartition("/")[2]], where)
-    for key in ("oneOf", "anyOf"):
+    for key, most in (("oneOf", 1), ("anyOf", len(schema.get("anyOf", ())))):
         if key in schema:
             wrong = [_why_not(value, each, where) for each in schema[key]]
-            return None if wrong.count(None) == 1 else f"{where}: {wrong.count(None)} of {key} fit: {wrong}"
+            return None if 1 <= wrong.count(None) <= most else f"{where}: {wrong.count(None)} of {key} fit: {wrong}"
     checks = (_wrong_type, _wrong_value, _wrong_object, _wrong_items)
     return next((found for found in (check(value, schema, where) for check in checks) if found), None)
 

@@ -240,7 +240,8 @@ class Csv(Reading):
             self.check("csv", b"load," + word, (LOAD, due))
 
     def test_cells(self):
-        for line in (b"store,64,7,x", b" store , 64 ", b"store\t,\t64,", b'"store","64"', b' "store" , "64" ', b'S,"0x40","a,b"'):
+        quoted = b'"store","64"', b' "store" , "64" ', b'STORE,"0x40","a,b"'
+        for line in (b"store,64,7,x", b" store , 64 ", b"store\t,\t64,", *quoted):
             self.check("csv", line + b"\nload,1\n", (STORE, 64), (LOAD, 1))
 
     def test_heads(self):
@@ -254,9 +255,17 @@ class Csv(Reading):
         self.check("csv", b"load,64,kind,address\nstore,65,0,0\n", (LOAD, 64), (STORE, 65))
 
     def test_heads_that_do_not_name_both(self):
-        for head in (b"kind,x", b"address", b"cycle,addr,ip", b"kind,type,address", b"kind,address,vaddr", b"kind,kind,addr"):
-            due = f"x:1: this head does not name {self.HEAD}; nothing after it was read\nx: 1 bad line; no trace was made"
-            self.assertEqual(told("csv", head + b"\nload,64\nnonsense\n"), due)
+        for head, kinds, places in (
+            (b"kind,x", 1, 0),
+            (b"address", 0, 1),
+            (b"cycle,addr,ip", 0, 1),
+            (b"kind,type,address", 2, 1),
+            (b"kind,address,VADDR", 1, 2),
+            (b"kind,kind,addr,addr", 2, 2),
+        ):
+            named = f"{kinds} of the columns kind, type, access and {places} of the columns address, addr, vaddr"
+            due = f"x:1: this head names {named}; it has to name one of each; nothing after it was read\n"
+            self.assertEqual(told("csv", head + b"\nload,64\nnonsense\n"), f"{due}x: 1 bad line; no trace was made")
 
     def test_a_head_is_the_first_line_only(self):
         self.check_bad("csv", b"kind,address", f"unknown kind 'kind'. {self.KINDS_ARE}")
@@ -322,11 +331,11 @@ class AllForms(Reading):
 
     def test_a_zero_byte_ends_it(self):
         for form, line in self.EXAMPLES.items():
-            why = "a zero byte: this is no UTF-8 text, as an address trace is; nothing after it was read"
-            due = f"x:2: {why}\nx: 1 bad line; no trace was made"
+            why = "a zero byte, and an address trace is UTF-8 text; if the file is packed, unpack it first"
+            due = f"x:2: {why}; nothing after it was read\nx: 1 bad line; no trace was made"
             for bad in (b"\0", b"# x\0", line + b"\0", b"y" * 9000 + b"\0"):
                 self.assertEqual(told(form, line + b"\n" + bad + b"\nnonsense\n"), due)
-            self.assertEqual(told(form, line.decode().encode("utf-16"))[:30], "x:1: a zero byte: this is no U")
+            self.assertTrue(told(form, line.decode().encode("utf-16")).startswith("x:1: a zero byte, and "))
 
     def test_long_lines(self):
         due = "the line has more than 4,096 bytes; one access stands on a line"
@@ -461,7 +470,7 @@ class Head(InFolder):
         empty = "the hit map is empty, and a domain without ways makes no accesses; name a way or more"
         for rest in ((), ("--fill", "none"), ("--fill", "0-3")):
             self.assert_usage("--hit", "none", *rest, said=f"argument --hit: {empty}")
-        outside = "way 4 is not in the hit map, 0-3; a domain fills only where it hits"
+        outside = "way 4 is not in the hit map, 0-3 (0xf); a domain fills only where it hits"
         self.assert_usage("--hit", "0-3", "--fill", "3-6", said=f"argument --fill: {outside}")
 
     def test_wrong_windows(self):
@@ -565,7 +574,7 @@ class Windows(InFolder):
 class Output(InFolder):
     """What is written, and what is told of it."""
 
-    DOMAIN = "64 sets, 8 ways, rule 0 (Tree-PLRU), domain 0 (hit 0-7, fill 0-7)"
+    DOMAIN = "64 sets, 8 ways, rule 0 (Tree-PLRU), domain 0 with hit map 0-7 (0xff) and fill map 0-7 (0xff)"
 
     def contents(self) -> dict[str, bytes]:
         return {path.name: path.read_bytes() for path in self.folder.iterdir()}
@@ -573,7 +582,7 @@ class Output(InFolder):
     def test_a_file(self):
         path, target = str(SAMPLES / "loop.lackey"), str(self.folder / "loop.trace")
         options = ("--sets", "1", "--ways", "16", "--rule", "lru", "--domain", "3", "--hit", "way0", "--fill", "none")
-        head = "1 set, 16 ways, rule 2 (true LRU), domain 3 (hit way0, fill none)"
+        head = "1 set, 16 ways, rule 2 (true LRU), domain 3 with hit map way0 (0x1) and fill map none (0x0)"
         said = f"{target}: {head}, window 0 of 1, 42 accesses, 43 steps\n"
         self.assertEqual(call("convert", path, "-o", target, *options), (0, b"", said))
         steps = (Step(3, 16, 1), *(Step(3, kind, address) for kind, address in LOOP))
@@ -653,7 +662,7 @@ class EveryWindow(InFolder):
     def test_files(self):
         data, name = loads(2 * ROOM + 7), str(self.folder / "w{window}.trace")
         status, out, err = call("convert", "--from", "din", "--sets", "4", "-o", name, stdin=data)
-        geometry = "4 sets, 8 ways, rule 0 (Tree-PLRU), domain 0 (hit 0-7, fill 0-7)"
+        geometry = "4 sets, 8 ways, rule 0 (Tree-PLRU), domain 0 with hit map 0-7 (0xff) and fill map 0-7 (0xff)"
         said = f"{name}: {geometry}, 3 windows, each in its own file, 8,197 accesses, 8,200 steps\n"
         self.assertEqual((status, out, err), (0, b"", said))
         self.assertEqual(sorted(os.listdir(self.folder)), ["w0.trace", "w1.trace", "w2.trace"])
@@ -744,14 +753,14 @@ class Streams(InFolder):
     @unittest.skipUnless(os.path.exists("/dev/zero"), "there is no /dev/zero")
     def test_a_file_without_end(self):
         for form in FORMS:
-            self.assert_bad(("convert", "/dev/zero", "--from", form, "-o", "-"), "/dev/zero:1: a zero byte: ", "1 bad line; ")
+            self.assert_bad(("convert", "/dev/zero", "--from", form, "-o", "-"), "/dev/zero:1: a zero byte, ", "1 bad line; ")
 
     def test_trace_files_and_texts_are_no_address_traces(self):
         text_file = str(programs.ROOT / "examples" / "case-a.txt")
         status, trace, _ = call("assemble", text_file, "-o", "-")
         self.assertEqual(status, 0)
         for form in FORMS:
-            self.assert_bad(("convert", "--from", form, "-o", "-"), ":1: a zero byte: ", stdin=trace)
+            self.assert_bad(("convert", "--from", form, "-o", "-"), ":1: a zero byte, ", stdin=trace)
             self.assert_bad(("convert", text_file, "--from", form, "-o", "-"), f"{text_file}:3: ")
 
     def test_a_pipe(self):

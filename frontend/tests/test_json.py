@@ -159,6 +159,42 @@ class Programs(unittest.TestCase):
             for name in ("list", "explain", "state"):
                 self.assert_lines(name, "-", stdin=data)
 
+    def checked(self, trace: Trace, log: bytes, *options: str) -> list[dict]:
+        """Check a log with the programs; give the lines."""
+        with tempfile.TemporaryDirectory() as folder:
+            path = os.path.join(folder, "t.trace")
+            with open(path, "wb") as file:
+                file.write(tracefile.encode(trace))
+            status, out, err = call("check", path, "-", "--json", "--max", "10000", *options, stdin=log)
+        self.assertIn(status, (0, 1), err)
+        records = schema.lines(out, "check")
+        self.assertEqual(records[-1]["same"], status == 0)
+        self.assertEqual(len(records) - 2, records[-1]["differences"])
+        return records
+
+    def test_logs(self):
+        source, hows, ofs = random.Random(24), set(), set()
+        for _ in range(6):
+            trace = busy_trace(source, 60)
+            lines = programs.lister(tracefile.encode(trace)).splitlines()
+            self.assertTrue(self.checked(trace, b"\n".join(lines))[-1]["same"])
+            for _ in range(6):
+                changed = list(lines)
+                place = source.randrange(len(changed))
+                changed[place : place + 1] = source.choice(([], [lines[place]] * 2, [lines[place][:-1] + b"9"], [b"4095 hit 3"]))
+                for record in self.checked(trace, b"\n".join(changed))[1:-1]:
+                    hows.add(record["how"])
+                    ofs.add(record["of"])
+        self.assertEqual((hows, ofs >= {"step", "domain"}), ({"other", "missing", "extra", "second"}, True))
+
+    def test_logs_that_say_less_or_something_strange(self):
+        trace = tracefile.decode(case_a.FILE)
+        log = case_a.LISTING.replace(b"5 evict 1 0 1", b"5 evict 1 x z").replace(b"2 fill 1", b"2 fill 0")
+        evict = next(record for record in self.checked(trace, log)[1:-1] if record["place"] == 5)
+        self.assertEqual(evict["found"], {"word": "evict", "way": 1, "tag": "x", "dirty": "z"})
+        words = b"\n".join(b" ".join(line.split()[:2]) for line in log.splitlines()[1:10])
+        self.assertTrue(self.checked(trace, words, "--format", "{place} {word}")[-1]["same"])
+
     def test_the_listing_can_be_written_from_it(self):
         data = tracefile.encode(busy_trace(random.Random(23), 200))
         head, *records = self.assert_lines("list", "-", stdin=data)
