@@ -106,20 +106,20 @@ def _parser() -> argparse.ArgumentParser:
     parser = _Parser(
         prog="dipperlock",
         description=helptext.ABOUT,
-        epilog=f"{helptext.examples(*helptext.EXAMPLES)}\n\n{helptext.STATUS}",
+        epilog=f"{helptext.first_examples()}\n\n{helptext.STATUS}",
         formatter_class=argparse.RawDescriptionHelpFormatter,
     )
     what = "say which version this is, of the toolchain and the programs too, and whether they are up to date"
     parser.add_argument("--version", action=_Version, nargs=0, help=what)
     subs = parser.add_subparsers(title="commands", metavar="COMMAND", required=True)
     _add_list(subs)
-    _add_assemble(subs)
-    _add_show(subs)
-    _add_isolate(subs)
     _add_explain(subs)
     _add_state(subs)
-    _add_plot(subs)
+    _add_isolate(subs)
     _add_check(subs)
+    _add_plot(subs)
+    _add_assemble(subs)
+    _add_show(subs)
     _add_convert(subs)
     return parser
 

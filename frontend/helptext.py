@@ -1,4 +1,8 @@
 """What `--help` says of the tool and of each command."""
+from __future__ import annotations
+
+from collections.abc import Iterable
+
 from frontend.errors import MEANINGS
 
 ABOUT = """\
@@ -260,27 +264,27 @@ those of 'dipperlock --help'.
 
 EXAMPLES = {
     "list": ("./dipperlock list examples/case-a.txt", "./dipperlock list examples/case-a.txt --json"),
-    "assemble": ("./dipperlock assemble examples/case-a.txt -o case-a.trace", "./dipperlock list case-a.trace"),
-    "show": ("./dipperlock assemble examples/case-a.txt -o case-a.trace", "./dipperlock show case-a.trace"),
-    "isolate": (
-        "./dipperlock isolate examples/case-a.txt 0",
-        "./dipperlock isolate examples/core-switch.txt 1 -o core-switch-1.trace",
-        "./dipperlock isolate examples/core-switch.txt --all",
-    ),
     "explain": (
         "./dipperlock explain examples/case-a.txt",
         "./dipperlock explain examples/core-switch.txt --step 6-9",
         "./dipperlock explain examples/refusals.txt --refused",
         "./dipperlock explain examples/balance.txt --domain 0 --word evict --json",
     ),
+    "state": ("./dipperlock state examples/case-a.txt --after 5", "./dipperlock state examples/case-a.txt --before 0 --json"),
+    "isolate": (
+        "./dipperlock isolate examples/case-a.txt 0",
+        "./dipperlock isolate examples/core-switch.txt 1 -o core-switch-1.trace",
+        "./dipperlock isolate examples/core-switch.txt --all",
+    ),
     "check": (
         "./dipperlock check examples/case-a.txt examples/rtl/case-a.log --format 't={any} CACHE step={place} {word} {fields}'",
     ),
-    "state": ("./dipperlock state examples/case-a.txt --after 5", "./dipperlock state examples/case-a.txt --before 0 --json"),
     "plot": (
         "./dipperlock plot examples/partition-shift.txt -o partition-shift.svg",
         "./dipperlock plot examples/handover.txt -o handover.svg",
     ),
+    "assemble": ("./dipperlock assemble examples/case-a.txt -o case-a.trace", "./dipperlock list case-a.trace"),
+    "show": ("./dipperlock assemble examples/case-a.txt -o case-a.trace", "./dipperlock show case-a.trace"),
     "convert": (
         "./dipperlock convert examples/addresses/loop.din --hit 0-3 -o loop.trace",
         "./dipperlock list loop.trace",
@@ -289,7 +293,16 @@ EXAMPLES = {
 }
 
 
-def examples(*names: str) -> str:
-    """Lay out the examples of some commands, each line once."""
-    lines = dict.fromkeys(line for name in names for line in EXAMPLES[name])
+def examples(name: str) -> str:
+    """Lay out the examples of a command."""
+    return _laid_out(EXAMPLES[name])
+
+
+def first_examples() -> str:
+    """Lay out one example of each command."""
+    return _laid_out([next(line for line in lines if line.split()[1] == name) for name, lines in EXAMPLES.items()])
+
+
+def _laid_out(lines: Iterable[str]) -> str:
+    """Put a head over lines that can be typed."""
     return "\n  ".join(("example, from the root of the repository:", *lines))

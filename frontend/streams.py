@@ -64,8 +64,8 @@ def standard_input() -> BinaryIO:
     return sys.stdin.buffer
 
 
-def write_out(data: bytes) -> None:
-    """Write bytes to standard output."""
+def write_out(data: bytes, already: int | None = None) -> None:
+    """Write bytes to standard output. Where they are a piece of what is written there, `already` is how many were written before."""
     if sys.stdout is None:
         raise MachineFailure("cannot write standard output: it is closed")
     try:
@@ -73,26 +73,39 @@ def write_out(data: bytes) -> None:
     except BrokenPipeError as error:
         raise ReaderGone() from error
     except Cut as cut:
-        part = f"; {cut.taken:,} of {len(data):,} bytes were written" if cut.taken else ""
+        taken, of_all = (cut.taken, f" of {len(data):,}") if already is None else (already + cut.taken, "")
+        part = f"; {taken:,}{of_all} bytes were written" if taken else ""
         raise MachineFailure(f"cannot write standard output: {reason(cut)}{part}") from cut
 
 
 def write_out_text(text: str) -> None:
     """Write a text to standard output."""
-    write_out(text.encode("utf-8", "surrogateescape"))
+    write_out(_encoded(text))
 
 
 def write_out_lines(lines: Iterable[str]) -> None:
     """Write lines to standard output as they come, many at a time."""
-    waiting, size = [], 0
+    waiting, size, written = [], 0, 0
     for line in lines:
         waiting.append(line)
         size += len(line)
         if size >= _MANY:
-            write_out_text("\n".join(waiting) + "\n")
+            written += _write_piece(waiting, written)
             waiting, size = [], 0
     if waiting:
-        write_out_text("\n".join(waiting) + "\n")
+        _write_piece(waiting, written)
+
+
+def _write_piece(lines: list[str], already: int) -> int:
+    """Write some lines after those that were written already; give how many bytes they are."""
+    data = _encoded("\n".join(lines) + "\n")
+    write_out(data, already)
+    return len(data)
+
+
+def _encoded(text: str) -> bytes:
+    """Give the bytes of a text; a name of a file may hold some that are no text."""
+    return text.encode("utf-8", "surrogateescape")
 
 
 def tell(text: str, end: str = "\n") -> None:

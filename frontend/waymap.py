@@ -130,13 +130,13 @@ def refused(refusals: tuple[Refusal, ...], frame: Frame, top: float) -> str:
         return ""
     near, y = gathered(refusals, frame), top + STRIP / 2 + 1
     drawn = [row_title("refused", y + 3.5), label(counted(len(refusals), "step"), frame.right + BEHIND, y + 3.5, SMALL)]
-    for number, some in enumerate(near):
-        x = frame.x(some[0].place + 0.5)
+    places = [frame.x(some[0].place + 0.5) for some in near]
+    for some, before, x, after in zip(near, [-WIDTH, *places], places, [*places[1:], frame.right + BEHIND]):
         drawn.append(_cross(some, x, (top, y)))
-        after = frame.x(near[number + 1][0].place + 0.5) if number + 1 < len(near) else frame.right + 8
         written = str(some[0].number)
-        if len({refusal.number for refusal in some}) == 1 and x + 12 + svg.width(written, SMALL) < after:
-            drawn.append(label(written, x + 6, y + 3.5, SMALL, fill=SOFT))
+        alone = min(x - before, after - x) > 12 + svg.width(written, SMALL)
+        if alone and len({refusal.number for refusal in some}) == 1:
+            drawn.append(label(written, x + 6, y + 3.5, SMALL, class_="number", fill=SOFT))
     return "".join(drawn)
 
 

@@ -55,8 +55,7 @@ class Help(InFolder):
         self.assertEqual(status, 0)
         for command in COMMANDS:
             self.assertIn(f"\n    {command} ", out.decode())
-            for line in helptext.EXAMPLES[command]:
-                self.assertIn(f"\n  {line}\n", out.decode())
+            self.assertEqual(out.decode().count(f"\n  ./dipperlock {command} "), 1)
 
     def test_explain_says_what_the_number_of_ways_is(self):
         said = " ".join(call("explain", "--help")[1].decode().split())
@@ -325,12 +324,21 @@ class Endings(InFolder):
         fifo = str(self.folder / "fifo")
         os.mkfifo(fifo)
         job = start("show", fifo)
-        with open(fifo, "wb"):  # opens as soon as the front end reads
+        with os.fdopen(self.writer(fifo, job), "wb"):
             while job.poll() is None:  # Python does not see a signal that comes right before it starts to wait
                 job.send_signal(signal.SIGINT)
                 time.sleep(0.1)
             out, err = job.communicate(timeout=20)
         self.assertEqual((job.returncode, out, err), (130, b"", b""))
+
+    def writer(self, fifo: str, job: subprocess.Popen) -> int:
+        """Open a pipe for writing as soon as a process reads it; fail if the process ends instead."""
+        while job.poll() is None:
+            try:
+                return os.open(fifo, os.O_WRONLY | os.O_NONBLOCK)
+            except OSError:  # nobody reads yet
+                time.sleep(0.01)
+        self.fail(job.communicate()[1])
 
     def test_executable_bit(self):
         tool = programs.ROOT / "dipperlock"

@@ -66,6 +66,26 @@ class Whole(InFolder):
             said = f"dipperlock: cannot write standard output: File too large; 8,192 of {size:,} bytes were written\n"
             self.assertEqual((status, err, target.stat().st_size), (3, said, LIMIT))
 
+    @needs_programs
+    def test_a_story_that_is_cut(self):
+        with open(self.folder / "out", "wb") as out:
+            status, _, err = ended("explain", self.big, stdout=out, preexec_fn=small_files)
+        said = "dipperlock: cannot write standard output: File too large; 8,192 bytes were written\n"
+        self.assertEqual((status, err, (self.folder / "out").stat().st_size), (3, said, LIMIT))
+
+    def test_lines_are_written_as_they_come(self):
+        lines = [f"{number:05}" for number in range(100_000)]
+        with mock.patch.object(streams, "write_out") as written:
+            streams.write_out_lines(iter(lines))
+        pieces = [call_made[0][0] for call_made in written.call_args_list]
+        self.assertEqual(b"".join(pieces).decode().splitlines(), lines)
+        self.assertLess(max(map(len, pieces)), 100_000)
+        sizes = [sum(map(len, pieces[:number])) for number in range(len(pieces))]
+        self.assertEqual([call_made[0][1] for call_made in written.call_args_list], sizes)
+        with mock.patch.object(streams, "write_out") as written:
+            streams.write_out_lines([])
+        written.assert_not_called()
+
     def test_unbuffered_python_writes_all(self):
         expected = call("show", self.big)[1]
         self.assertGreater(len(expected), 1 << 15)

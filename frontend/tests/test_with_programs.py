@@ -11,7 +11,7 @@ import unittest
 from dataclasses import replace
 from pathlib import Path
 
-from frontend import cores, crates, files, helptext, listing, maps, programs, run, stepper, struck, tracefile, words
+from frontend import cores, crates, files, helptext, listing, maps, programs, run, stepper, struck, telling, tracefile, words
 from frontend.tests import balance, case_a, core_switch, highest_first, locked_lines, true_lru
 from frontend.tests.helpers import call, knows_cores, needs_programs, parsed, random_trace, start, streamed
 from frontend.tracefile import Step, Trace
@@ -568,6 +568,22 @@ class Random(unittest.TestCase):
                 due.append(len(ways))
             self.assertEqual([block.visited for block in blocks_of(taken)], due)
         self.assertGreater(max(hits), 3)
+
+    def test_where_addresses_lie(self):
+        source, seen = random.Random(25), set()
+        for _ in range(12):
+            taken = run.take("random", tracefile.encode(busy_trace(source, 150)))
+            for moment in run.moments(taken):
+                address = telling.address_of(moment.step, taken.trace.sets)
+                self.assertEqual(address is None, moment.step.kind in (16, 40))
+                if address is None:
+                    continue
+                self.assertEqual(address.set, moment.after.set)
+                if moment.answer.word in ("hit", "fill", "evict", "flush"):
+                    row = moment.after.rows.get(address.set, moment.rows[address.set])
+                    self.assertEqual(address.tag, row.tags[moment.answer.fields[0]])
+                seen.add(moment.answer.word)
+        self.assertEqual(seen, {"hit", "fill", "evict", "pass", "flush", "absent", "refused"})
 
     def test_any_trace_is_listed(self):
         source = random.Random(10)
