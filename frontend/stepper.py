@@ -94,7 +94,9 @@ class Reader:
         self._numbers = [struct.pack("<H", number) for number in range(trace.sets)]  # how each row begins
         self._rows = [b""] * trace.sets  # every row as it stands
         self._whole = b""  # all rows as the last block that had them all; nothing if one has changed since
-        self._records = b"", ()  # the core records of the last block, as bytes and taken apart
+        self._each: list[tuple] = [(b"",)] * DOMAINS  # the record of each domain in the last block, as bytes and taken apart
+        self._domains: tuple[bytes, tuple] = b"", ()  # and all of them
+        self._records: tuple[bytes, tuple] = b"", ()  # the core records of the last block, as bytes and taken apart
         self.held: tuple[int, ...] = ()  # known when all blocks have been read
 
     def blocks(self) -> Iterator[Block]:
@@ -112,13 +114,13 @@ class Reader:
     def _block(self, number: int) -> Block:
         """Take the next block off the stream."""
         head = self._read(_HEAD, number)
-        hit, fill, *counts = zip(*_DOMAIN.iter_unpack(head[:_OF_DOMAINS]))
+        domains = self._domains_of(head[:_OF_DOMAINS])
         records = self._records_of(head[_OF_DOMAINS : _OF_DOMAINS + _RECORDS.size])
         place, count, visited, domain = _PLACE.unpack_from(head, _HEAD - _PLACE.size)
         self._check_place(place, visited)
         rows = self._changed(self._read(count * self._size, number), count)
         taken_for = None if domain == NO_DOMAIN else domain
-        return Block(hit, fill, tuple(map(Counts._make, zip(*counts))), records, place, visited, taken_for, rows)
+        return Block(*domains, records, place, visited, taken_for, rows)
 
     def _read(self, size: int, number: int) -> bytes:
         """Read some bytes of a block."""
@@ -126,6 +128,18 @@ class Reader:
         if len(data) != size:
             raise _misfit(f"it breaks off within block {number} of {len(self._trace.steps) + 1}")
         return data
+
+    def _domains_of(self, data: bytes) -> tuple[tuple, ...]:
+        """Give the hit maps, the fill maps and the counts of all domains; only what is not as it was is taken apart."""
+        if data == self._domains[0]:
+            return self._domains[1]
+        for number in range(DOMAINS):
+            own = data[number * _DOMAIN.size : (number + 1) * _DOMAIN.size]
+            if own != self._each[number][0]:
+                hit, fill, *counts = _DOMAIN.unpack(own)
+                self._each[number] = own, hit, fill, Counts._make(counts)
+        self._domains = data, tuple(zip(*self._each))[1:]
+        return self._domains[1]
 
     def _records_of(self, data: bytes) -> tuple[tuple[int, ...], ...]:
         """Take the core records apart, unless they are as they were."""
