@@ -177,7 +177,7 @@ def _add_explain(subs: argparse._SubParsersAction) -> None:
     sub.add_argument("--word", metavar="WORD", choices=tuple(listing.FIELDS), action="append", help=what)
     sub.add_argument("--refused", dest="word", action="append_const", const="refused", help="only refused steps")
     _add_json(sub)
-    sub.set_defaults(run=commands.explain)
+    sub.set_defaults(run=commands.explain_trace)
 
 
 def _add_state(subs: argparse._SubParsersAction) -> None:

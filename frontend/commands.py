@@ -3,30 +3,13 @@ from __future__ import annotations
 
 import argparse
 
-from frontend import check
-from frontend import explain as story
-from frontend import (
-    drawing,
-    files,
-    forewarn,
-    isolate,
-    paint,
-    plot,
-    programs,
-    records,
-    run,
-    state,
-    streams,
-    text,
-    tracefile,
-    version,
-    words,
-)
+from frontend import check, explain, files, forewarn, isolate, paint, programs, records, run, state, streams
+from frontend import text, tracefile, version, words
 from frontend.errors import DIFFERENCE, DONE, BadInput
-from frontend.explain import Explainer
 from frontend.files import Given
 from frontend.logform import Log
 from frontend.numbers import counted
+from frontend.picture import drawing, plot
 from frontend.telling import Teller, Wanted
 
 _SHARED_NODE = ("refused", (9,))  # the answer whose reason the program `parts` knows
@@ -89,7 +72,7 @@ def isolate_domain(args: argparse.Namespace) -> int:
     return DIFFERENCE if any(each.found.differences() for each in found) else DONE
 
 
-def explain(args: argparse.Namespace) -> int:
+def explain_trace(args: argparse.Namespace) -> int:
     """Tell a run step by step."""
     given = _read(args, "lister", "stepper")
     taken, wanted = run.take(given.name, given.data), _wanted(args)
@@ -97,9 +80,9 @@ def explain(args: argparse.Namespace) -> int:
         programs.need("parts")
     steps = Teller(given, taken.trace, wanted).tell(run.moments(taken))
     if args.json:
-        lines = records.lines(story.tell_records(taken, given.title, steps, wanted.all))
+        lines = records.lines(explain.tell_records(taken, given.title, steps, wanted.all))
     else:
-        lines = Explainer(taken, given.title, paint.for_output(), args.all).lines(steps, wanted.all)
+        lines = explain.Explainer(taken, given.title, paint.for_output(), args.all).lines(steps, wanted.all)
     streams.write_out_lines(lines)
     return DONE
 

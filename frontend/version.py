@@ -9,7 +9,7 @@ from frontend import programs
 from frontend.quote import cut
 from frontend.table import columns
 
-VERSION = "0.1.0"
+VERSION = "0.2.0"
 _PATIENCE = 20  # seconds that `rt version` may take
 
 

@@ -11,9 +11,10 @@ from collections.abc import Iterable, Iterator
 from unittest import mock
 from xml.etree import ElementTree
 
-from frontend import drawing, hatching, listing, panels, plot, programs, run, svg, tracefile, words
+from frontend import listing, programs, run, tracefile, words
 from frontend.listing import Answer, Counts
-from frontend.plot import Holder, Panel, Series, Stretch
+from frontend.picture import drawing, hatching, panels, plot, svg
+from frontend.picture.plot import Holder, Panel, Series, Stretch
 from frontend.run import Moment
 from frontend.stepper import Block, Rows
 from frontend.tests import case_a

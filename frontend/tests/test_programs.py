@@ -310,7 +310,7 @@ class Version(StandIns):
         status, out, err = call("--version")
         self.assertEqual((status, err), (0, ""))
         lines = out.decode().splitlines()
-        self.assertRegex(lines[0], r"^dipperlock +0\.1\.0, with Python 3\.[0-9]+\.[0-9]+")
+        self.assertRegex(lines[0], r"^dipperlock +0\.2\.0, with Python 3\.[0-9]+\.[0-9]+")
         self.assertRegex(lines[1], r"^rt +kit-1 logic 2$")
         self.assertEqual(lines[2].split(None, 1), ["lister", f"{self.bin}/lister is up to date"])
         self.assertEqual(lines[3].split(None, 1), ["purger", f"{self.bin}/purger is missing"])

@@ -489,6 +489,12 @@ class Examples(unittest.TestCase):
                 _, err = job.communicate()
                 self.assertEqual(job.returncode, 0, (line, err))
 
+    def test_the_picture_in_the_readme(self):
+        with start("plot", "examples/partition-shift.txt", "-o", "-", cwd=programs.ROOT) as job:
+            drawn, err = job.communicate()
+        self.assertEqual((job.returncode, err), (0, b""))
+        self.assertEqual(drawn, (programs.ROOT / "docs" / "partition-shift.svg").read_bytes())
+
     def test_refusals_are_those_that_the_text_says(self):
         text = (programs.ROOT / "examples" / "refusals.txt").read_bytes()
         status, out, _ = call("list", str(programs.ROOT / "examples" / "refusals.txt"))

@@ -3,7 +3,7 @@ from __future__ import annotations
 
 from typing import NamedTuple
 
-from frontend import svg
+from frontend.picture import svg
 
 
 class Hatch(NamedTuple):

@@ -4,7 +4,7 @@ from __future__ import annotations
 from dataclasses import dataclass
 from itertools import count
 
-from frontend import svg
+from frontend.picture import svg
 
 WIDTH = 960  # of the whole picture, in pixels, as is all else
 MARGIN = 20

@@ -4,10 +4,10 @@ from __future__ import annotations
 from collections.abc import Callable
 from typing import NamedTuple
 
-from frontend import hatching, panels, svg, waymap
-from frontend.frame import ACCENT, FRAME, INK, LEFT, MARGIN, PAPER, SOFT, WIDTH, label, line, row_title
 from frontend.numbers import counted
-from frontend.plot import COUNTS, Series, Stretch
+from frontend.picture import hatching, panels, svg, waymap
+from frontend.picture.frame import ACCENT, FRAME, INK, LEFT, MARGIN, PAPER, SOFT, WIDTH, label, line, row_title
+from frontend.picture.plot import COUNTS, Series, Stretch
 
 _SIZE = 11
 _ROW = 19

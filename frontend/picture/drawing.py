@@ -4,10 +4,11 @@ from __future__ import annotations
 from collections.abc import Iterator
 from itertools import groupby
 
-from frontend import hatching, legend, panels, plot, svg, waymap, words
-from frontend.frame import ACCENT, BEHIND, LARGE, LEFT, MARGIN, PAPER, SMALL, SOFT, WIDTH, Frame, label, line, row_title
+from frontend import words
 from frontend.numbers import counted
-from frontend.plot import Change, Series
+from frontend.picture import hatching, legend, panels, plot, svg, waymap
+from frontend.picture.frame import ACCENT, BEHIND, LARGE, LEFT, MARGIN, PAPER, SMALL, SOFT, WIDTH, Frame, label, line, row_title
+from frontend.picture.plot import Change, Series
 
 MOST_LINES = 40  # accepted policy changes, up to which each has a line
 _FAR = 5  # panels, from which on the steps are numbered above them too

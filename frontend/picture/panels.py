@@ -3,9 +3,9 @@ from __future__ import annotations
 
 from typing import NamedTuple
 
-from frontend import hatching, plot, svg
-from frontend.frame import FRAME, GRID, INK, LABEL, LEFT, MARGIN, PLAIN, Frame, label, line, row_title
-from frontend.plot import Panel, Points
+from frontend.picture import hatching, plot, svg
+from frontend.picture.frame import FRAME, GRID, INK, LABEL, LEFT, MARGIN, PLAIN, Frame, label, line, row_title
+from frontend.picture.plot import Panel, Points
 
 HEIGHT = 76  # of a panel
 PITCH = 100  # from one panel to the next

@@ -1,10 +1,10 @@
 """The map of a picture: a band for each way, hatched by the domain that has it, and below it the steps that were refused."""
 from __future__ import annotations
 
-from frontend import hatching, svg
-from frontend.frame import BEHIND, INK, MARGIN, PAPER, PLAIN, SMALL, SOFT, WIDTH, Frame, label, row_title
 from frontend.numbers import counted
-from frontend.plot import Holder, Refusal, Series, Stretch
+from frontend.picture import hatching, svg
+from frontend.picture.frame import BEHIND, INK, MARGIN, PAPER, PLAIN, SMALL, SOFT, WIDTH, Frame, label, row_title
+from frontend.picture.plot import Holder, Refusal, Series, Stretch
 
 BAND = 20  # from one way to the next
 STRIP = 18  # of the refused steps below the map
