@@ -95,8 +95,8 @@ class Reader:
         self._rows = [b""] * trace.sets  # every row as it stands
         self._whole = b""  # all rows as the last block that had them all; nothing if one has changed since
         self._each: list[tuple] = [(b"",)] * DOMAINS  # the record of each domain in the last block, as bytes and taken apart
-        self._domains: tuple[bytes, tuple] = b"", ()  # and all of them
-        self._records: tuple[bytes, tuple] = b"", ()  # the core records of the last block, as bytes and taken apart
+        self._domains: tuple[bytes, tuple] = (b"", ())  # and all of them
+        self._records: tuple[bytes, tuple] = (b"", ())  # the core records of the last block, as bytes and taken apart
         self.held: tuple[int, ...] = ()  # known when all blocks have been read
 
     def blocks(self) -> Iterator[Block]:
