@@ -6,6 +6,7 @@ import random
 import re
 import shlex
 import subprocess
+import sys
 import tempfile
 import unittest
 from dataclasses import replace
@@ -13,7 +14,7 @@ from pathlib import Path
 
 from frontend import cores, crates, files, helptext, listing, maps, programs, run, stepper, struck, telling, tracefile, words
 from frontend.tests import balance, case_a, core_switch, highest_first, locked_lines, true_lru
-from frontend.tests.helpers import call, knows_cores, needs_programs, parsed, random_trace, start, streamed
+from frontend.tests.helpers import MAIN, call, knows_cores, needs_programs, parsed, random_trace, start, streamed
 from frontend.tracefile import Step, Trace
 
 EXAMPLES = sorted((programs.ROOT / "examples").glob("*.txt"))
@@ -412,6 +413,40 @@ class Longest(unittest.TestCase):
         data = self.FILE + bytes(200_000)
         self.assertEqual(said(data, "lister"), b"refused 10\n")
         self.assertEqual((said(data, "purger", "0"), said(data, "stepper")), (b"", b""))
+
+
+@needs_programs
+class Much(unittest.TestCase):
+    """Runs whose streams have 75 megabytes: all rows after each of 2,048 policy changes."""
+
+    ROOM = 64 * 1024  # kilobytes
+
+    # A process of its own starts the command and says what that took: a child's number is no less than what its parent has.
+    OTHER = (
+        "import resource, subprocess, sys\n"
+        "status = subprocess.call(sys.argv[1:], stdout=subprocess.DEVNULL)\n"
+        "print(status, resource.getrusage(resource.RUSAGE_CHILDREN).ru_maxrss)"
+    )
+
+    def most(self, trace: Trace, *arguments: str) -> int:
+        """Run a command on a trace; give the most memory that it took, in kilobytes."""
+        with tempfile.TemporaryDirectory() as folder:
+            path = Path(folder) / "much.trace"
+            path.write_bytes(tracefile.encode(trace))
+            command = (sys.executable, "-I", "-S", MAIN, arguments[0], str(path), *arguments[1:])
+            streams = {"stdin": subprocess.DEVNULL, "stdout": subprocess.PIPE, "stderr": subprocess.PIPE}
+            done = subprocess.run((sys.executable, "-c", self.OTHER, *command), check=True, **streams)
+        status, used = map(int, done.stdout.split())
+        self.assertEqual((status, done.stderr), (0, b""))
+        return used
+
+    def test_memory(self):
+        turns = tuple(Step(0, 16, 0x10001 << place % 16) for place in range(2048))  # under true LRU each changes every row
+        halves = tuple(Step(0, 16, 0xFF00FF << 8 * (place % 2)) for place in range(2048))
+        for rule, steps in ((2, turns), (1, halves), (0, halves)):
+            for arguments in (("explain",), ("explain", "--json", "--step", "0-9"), ("isolate", "--all"), ("plot", "-o", "-")):
+                used = self.most(Trace(256, 16, rule, steps), *arguments)
+                self.assertLess(used, self.ROOM, (rule, arguments))
 
 
 @needs_programs
