@@ -83,7 +83,10 @@ class Explainer:
     def _answer(self, answer: Answer, said: str) -> Iterator[str]:
         """Tell the answer, as listed and in words."""
         yield "  " + self._paint(_COLOURS.get(answer.word, "yellow"), str(answer))
-        yield from textwrap.wrap(said, _WIDTH, initial_indent="  ", subsequent_indent="  ")
+        if len(said) + 2 <= _WIDTH:
+            yield f"  {said}"
+        else:
+            yield from textwrap.wrap(said, _WIDTH, initial_indent="  ", subsequent_indent="  ")
 
     def _changes(self, told: Told) -> Iterator[str]:
         """Tell the rows of a step's sets before and after it, but no more than are wanted."""
@@ -100,7 +103,7 @@ class Explainer:
     def _row(self, change: _Change) -> Iterator[str]:
         """Tell one row before and after a step, way by way."""
         ways = range(self._trace.ways)
-        lines = [[words.line(row, way) for way in ways] for row in change.rows]
+        lines = map(words.lines, change.rows)
         owners = (_owners(*(getattr(block, kind) for block in change.blocks), len(ways)) for kind in ("hit", "fill"))
         table = [(" ", f"set {change.number}", "before", "after", "hit map", "fill map")]
         table += [(_mark(*pair[1:3]), *pair) for pair in zip(map("way {}".format, ways), *lines, *owners)]

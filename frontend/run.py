@@ -12,6 +12,7 @@ from frontend.stepper import Block, Rows
 from frontend.tracefile import Step, Trace
 
 _GEOMETRY, _FILE = 1, 10  # the numbers by which a whole file is refused
+MOST_KEPT = 20_000  # rows, up to which the blocks of a stream are kept; a row has up to 142 bytes
 _UTF_16 = (b"\xff\xfe", b"\xfe\xff")  # how a text begins that two bytes write a character of
 
 
@@ -19,8 +20,9 @@ _UTF_16 = (b"\xff\xfe", b"\xfe\xff")  # how a text begins that two bytes write a
 class Run:
     """A trace, its listing, and what the stepper says: whom each step was taken for, how many ways its lookup visited, and the end.
 
-    The end is the last block, every row, and the lines that each domain holds. `own` is a domain's own part of each
-    set's word, where that was asked for."""
+    The end is the last block, every row, and the lines that each domain holds. `blocks` are all of the stream, if the
+    rows that changed are not too many to be kept. `own` is a domain's own part of each set's word, where that was
+    asked for."""
 
     trace: Trace
     listing: Listing
@@ -29,6 +31,7 @@ class Run:
     end: Block
     rows: Rows
     held: tuple[int, ...]
+    blocks: tuple[Block, ...] | None
     own: tuple[int, ...] = ()
 
 
@@ -56,27 +59,33 @@ def take(name: str, data: bytes) -> Run:
 
 
 def fold(trace: Trace, listed: Listing, stream: BinaryIO) -> Run:
-    """Read a whole stream, and keep of it what does not grow with the number of rows that steps changed."""
+    """Read a whole stream, and keep of it what is not too much: not every row that a step changed, if these are many."""
     reader = stepper.Reader(stream, trace)
     blocks = reader.blocks()
-    block = next(blocks)
-    rows, domains, visited = block.rows.copy(), [], []
-    for block in blocks:
-        rows.take(block.rows)
-        domains.append(block.domain)
-        visited.append(block.visited)
-    return Run(trace, listed, tuple(domains), tuple(visited), block, rows, reader.held)
+    end = next(blocks)
+    rows, kept, many, domains, visited = end.rows.copy(), [end], len(end.rows), [], []
+    for end in blocks:
+        rows.take(end.rows)
+        domains.append(end.domain)
+        visited.append(end.visited)
+        many += len(end.rows)
+        if many <= MOST_KEPT:
+            kept.append(end)
+    all_kept = tuple(kept) if many <= MOST_KEPT else None
+    return Run(trace, listed, tuple(domains), tuple(visited), end, rows, reader.held, all_kept)
 
 
 def moments(taken: Run) -> Iterator[Moment]:
-    """Run the stepper once more, on a trace whose stream was found whole, and give every step as it comes."""
+    """Give every step of a run as it comes. Where its blocks were not kept, the stepper, whose stream was found whole, is run again."""
+    if taken.blocks is not None:
+        yield from walk(taken.trace, taken.listing, iter(taken.blocks))
+        return
     with programs.stepper(tracefile.encode(taken.trace)) as stream:
-        yield from walk(taken.trace, taken.listing, stream)
+        yield from walk(taken.trace, taken.listing, stepper.Reader(stream, taken.trace).blocks())
 
 
-def walk(trace: Trace, listed: Listing, stream: BinaryIO) -> Iterator[Moment]:
+def walk(trace: Trace, listed: Listing, blocks: Iterator[Block]) -> Iterator[Moment]:
     """Give the steps of a stream one by one. All rows are kept once, as they stand before the step."""
-    blocks = stepper.Reader(stream, trace).blocks()
     before = next(blocks)
     rows = before.rows.copy()
     for place, after in enumerate(blocks):

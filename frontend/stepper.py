@@ -25,6 +25,7 @@ _PLACE = struct.Struct("<HHHH")
 _HELD = struct.Struct(f"<{DOMAINS}I")
 _OF_DOMAINS = DOMAINS * _DOMAIN.size
 _HEAD = _OF_DOMAINS + _RECORDS.size + _PLACE.size
+_TOGETHER = 16  # rows that are compared at once
 
 
 class Row(NamedTuple):
@@ -38,6 +39,8 @@ class Row(NamedTuple):
 
 class Rows(Mapping):
     """Rows by the number of their set, as the stream has them; a row is taken apart when it is asked for."""
+
+    __slots__ = ("_ways", "_form", "_raw")
 
     def __init__(self, ways: int, raw: dict[int, bytes]) -> None:
         self._ways, self._form, self._raw = ways, _form(ways), raw
@@ -91,9 +94,9 @@ class Reader:
     def __init__(self, stream: BinaryIO, trace: Trace) -> None:
         self._stream, self._trace = stream, trace
         self._size = _form(trace.ways).size
-        self._numbers = [struct.pack("<H", number) for number in range(trace.sets)]  # how each row begins
-        self._rows = [b""] * trace.sets  # every row as it stands
-        self._whole = b""  # all rows as the last block that had them all; nothing if one has changed since
+        numbers = struct.pack(f"<{trace.sets}H", *range(trace.sets))
+        self._numbers = numbers[::2], numbers[1::2]  # what all rows begin with, the low bytes and the high ones
+        self._rows = b""  # every row as it stands, one behind the other; before the first block there is none
         self._each: list[tuple] = [(b"",)] * DOMAINS  # the record of each domain in the last block, as bytes and taken apart
         self._domains: tuple[bytes, tuple] = (b"", ())  # and all of them
         self._records: tuple[bytes, tuple] = (b"", ())  # the core records of the last block, as bytes and taken apart
@@ -149,27 +152,40 @@ class Reader:
 
     def _changed(self, raw: bytes, count: int) -> Rows:
         """Give those of some rows that are not as they were, and note them."""
-        if raw == self._whole:
+        if raw == self._rows:
             return Rows(self._trace.ways, {})
-        parts = [raw[start : start + self._size] for start in range(0, len(raw), self._size)]
         if count == self._trace.sets:
-            if [part[:2] for part in parts] != self._numbers:
+            if (raw[:: self._size], raw[1 :: self._size]) != self._numbers:
                 raise self._wrong_rows()
-            changed = {number: new for number, (old, new) in enumerate(zip(self._rows, parts)) if old != new}
-            self._whole, self._rows = raw, parts
-        else:
-            changed = {number: new for number, new in map(self._numbered, parts) if self._rows[number] != new}
-            self._whole = b"" if changed else self._whole
-            for number, new in changed.items():
-                self._rows[number] = new
+            changed = dict(self._differing(raw))
+            self._rows = raw
+            return Rows(self._trace.ways, changed)
+        pieces = (raw[start : start + self._size] for start in range(0, len(raw), self._size))
+        changed = {number: row for number, row in map(self._numbered, pieces) if self._standing(number) != row}
+        for number, row in changed.items():
+            self._rows = b"".join((self._rows[: number * self._size], row, self._rows[(number + 1) * self._size :]))
         return Rows(self._trace.ways, changed)
 
-    def _numbered(self, part: bytes) -> tuple[int, bytes]:
+    def _differing(self, raw: bytes) -> Iterator[tuple[int, bytes]]:
+        """Give those of all rows that are not as they stand. Most are, so that many are compared at once first."""
+        rows, size, together = self._rows, self._size, self._size * _TOGETHER
+        for begin in range(0, len(raw), together):
+            if raw[begin : begin + together] != rows[begin : begin + together]:
+                for start in range(begin, min(begin + together, len(raw)), size):
+                    row = raw[start : start + size]
+                    if row != rows[start : start + size]:
+                        yield start // size, row
+
+    def _standing(self, number: int) -> bytes:
+        """Give a row as it stands."""
+        return self._rows[number * self._size : (number + 1) * self._size]
+
+    def _numbered(self, row: bytes) -> tuple[int, bytes]:
         """Give a row with the number of its set."""
-        number = int.from_bytes(part[:2], "little")
+        number = int.from_bytes(row[:2], "little")
         if number >= self._trace.sets:
             raise self._wrong_rows()
-        return number, part
+        return number, row
 
     def _end(self, last: Block) -> None:
         """Read what stands behind the last block."""

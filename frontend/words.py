@@ -1,6 +1,8 @@
 """Steps and answers in plain words."""
 from __future__ import annotations
 
+import functools
+
 from frontend import cores, maps
 from frontend.listing import Answer, Counts
 from frontend.numbers import counted, hexadecimal
@@ -77,7 +79,18 @@ def selected(before: tuple[int, ...], after: tuple[int, ...]) -> str:
 
 def line(row: Row, way: int) -> str:
     """Say what stands in a way: its tag, and whether it is valid and dirty."""
-    valid, dirty, tag = row.valid >> way & 1, row.dirty >> way & 1, row.tags[way]
+    return _line(row.valid >> way & 1, row.dirty >> way & 1, row.tags[way])
+
+
+def lines(row: Row) -> list[str]:
+    """Say what stands in each way of a set."""
+    valid, dirty = row.valid, row.dirty
+    return [_line(valid >> way & 1, dirty >> way & 1, tag) for way, tag in enumerate(row.tags)]
+
+
+@functools.lru_cache(maxsize=1024)
+def _line(valid: int, dirty: int, tag: int) -> str:
+    """Say what a way holds by its two bits and its tag."""
     if not valid and not dirty and tag == 0:
         return "empty"
     return f"tag {tag}" + (", dirty" if dirty else "") + ("" if valid else ", invalid")

@@ -1,7 +1,6 @@
 """The story of a run, from a listing and a stream made by hand."""
 from __future__ import annotations
 
-import io
 import os
 import re
 import unittest
@@ -22,8 +21,7 @@ def told(trace: Trace, listed: bytes, stream: bytes, colour: bool = False, show_
     """Tell a run of what programs might have said; with `source`, as that of a text, and with `wanted`, some of its steps."""
     run_taken, wanted = taken(trace, listed, stream), options.get("wanted", Wanted())
     given = files.Given("t.txt", b"", options.get("source"))
-    moments = run.walk(trace, run_taken.listing, io.BytesIO(stream))
-    steps = Teller(given, trace, wanted).tell(moments)
+    steps = Teller(given, trace, wanted).tell(run.moments(run_taken))
     return "\n".join(Explainer(run_taken, "t.txt", Paint(colour), show_all).lines(steps, wanted.all))
 
 

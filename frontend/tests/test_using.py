@@ -14,7 +14,6 @@ from frontend.programs import ROOT
 from frontend.tests.helpers import needs_programs
 
 USING = (ROOT / "docs" / "USING.md").read_text(encoding="utf-8")
-SESSION = USING.partition("\n## A worked session")[2]
 LINK = re.compile(r"\]\(([^)]+)\)")
 
 
@@ -79,8 +78,8 @@ class Session(unittest.TestCase):
         done = subprocess.run(line, shell=True, cwd=self.folder, check=False, **streams)
         return done.returncode, done.stdout.decode().rstrip("\n")
 
-    def test_the_session_is_as_printed(self):
-        commands = blocks(SESSION)
+    def test_what_is_printed(self):
+        commands = blocks(USING)
         self.assertGreater(len(commands), 15)
         for line, printed in commands:
             status, said = self.run_line(line)
@@ -89,7 +88,7 @@ class Session(unittest.TestCase):
 
     def test_the_other_examples_work(self):
         (self.folder / "target").mkdir()
-        lines = re.findall(r"^    (\./dipperlock (?!COMMAND).*)$", USING.partition("\n## A worked session")[0], re.MULTILINE)
+        lines = re.findall(r"^    (\./dipperlock (?!COMMAND).*)$", USING, re.MULTILINE)
         self.assertGreater(len(lines), 10)
         for line in lines:
             self.assertEqual(self.run_line(line)[0], 0, line)

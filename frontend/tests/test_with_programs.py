@@ -11,6 +11,7 @@ import tempfile
 import unittest
 from dataclasses import replace
 from pathlib import Path
+from unittest import mock
 
 from frontend import cores, crates, files, helptext, listing, maps, programs, run, stepper, struck, telling, tracefile, words
 from frontend.tests import balance, case_a, core_switch, highest_first, locked_lines, true_lru
@@ -625,6 +626,15 @@ class Random(unittest.TestCase):
                     self.assertEqual(address.tag, row.tags[moment.answer.fields[0]])
                 seen.add(moment.answer.word)
         self.assertEqual(seen, {"hit", "fill", "evict", "pass", "flush", "absent", "refused"})
+
+    def test_a_run_whose_blocks_are_not_kept_is_told_alike(self):
+        source = random.Random(26)
+        for _ in range(6):
+            data = tracefile.encode(busy_trace(source, 100))
+            for arguments in (("explain", "--all"), ("explain", "--json"), ("plot", "-o", "-")):
+                told = call(arguments[0], "-", *arguments[1:], stdin=data)
+                with mock.patch.object(run, "MOST_KEPT", source.choice((0, 1, 300))):
+                    self.assertEqual(call(arguments[0], "-", *arguments[1:], stdin=data), told)
 
     def test_any_trace_is_listed(self):
         source = random.Random(10)
