@@ -3,6 +3,7 @@ from __future__ import annotations
 
 import argparse
 from collections.abc import Callable, Iterator
+from dataclasses import replace
 from typing import NamedTuple
 
 from frontend import files, programs, records, run, struck, text, tracefile, words
@@ -51,7 +52,7 @@ def isolated(whole: Run, domain: int) -> Isolated:
     """Run the struck-out list of a domain, and compare what the domain sees."""
     whole = run.with_own(whole, domain)
     kept = struck.kept(whole, domain, programs.purger(tracefile.encode(whole.trace), domain))
-    struck_run = run.with_own(_take_struck(kept), domain)
+    struck_run = replace(run.with_own(_take_struck(kept), domain), blocks=None)  # one for each domain may have to be kept
     return Isolated(domain, struck_run, compare(whole, struck_run, domain))
 
 

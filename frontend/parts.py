@@ -6,15 +6,19 @@ from dataclasses import replace
 from frontend import programs, tracefile
 from frontend.errors import MachineFailure
 from frontend.quote import cut
-from frontend.tracefile import LARGEST_ARGUMENT, Step, Trace
+from frontend.tracefile import LARGEST_ARGUMENT, MAX_STEPS, Step, Trace
 
 _MOST_QUOTED = 60  # characters of a line that is no number
 
 
 def of(trace: Trace, asked: list[tuple[int, int]]) -> tuple[int, ...]:
-    """Give the own parts, for each a fill map and a word, under the ways and the rule of a trace.
+    """Give the own parts, for each a fill map and a word, under the ways and the rule of a trace."""
+    pieces = (asked[start : start + MAX_STEPS] for start in range(0, len(asked), MAX_STEPS))
+    return tuple(part for piece in pieces for part in _of_piece(trace, piece))
 
-    They are asked in the form of a trace file: a fill map for a code, a word for an argument."""
+
+def _of_piece(trace: Trace, asked: list[tuple[int, int]]) -> tuple[int, ...]:
+    """Ask for as many as one file holds. They stand in the form of a trace file: a fill map for a code, a word for an argument."""
     entries = tuple(Step(fill & 0xFF, fill >> 8, word) for fill, word in asked)
     return parse(programs.parts(tracefile.encode(replace(trace, steps=entries))), len(entries))
 

@@ -92,7 +92,7 @@ class Teller:
         """List the sets whose rows are shown: none for a step that changes none."""
         if moment.answer.word in _NO_ROWS and not moment.after.rows:
             return []
-        shown = concerned(moment) if moment.step.kind != POLICY else sorted(moment.after.rows)
+        shown = concerned(moment)
         return shown if self._wanted.sets is None else [number for number in shown if number in self._wanted.sets]
 
     def _said(self, moment: Moment) -> str:

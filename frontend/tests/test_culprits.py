@@ -213,3 +213,10 @@ class SharedNodes(unittest.TestCase):
         with by_rote(parts=lambda entries: asked.append(entries) or real(entries)):
             status, out, _ = call("explain", "-", stdin=data)
         self.assertEqual((status, out.count(b"refused 9"), len(asked)), (0, 4, 1))
+
+    def test_more_maps_than_a_file_has_steps(self):
+        fills = [fill for fill in range(1, 1 << 16) if fill & 0b11 == 0b01][:4095]
+        steps = (Step(0, 16, 0x000A_000A), *(Step(1, 16, fill | fill << 16) for fill in fills))
+        status, out, err = call("explain", "-", "--word", "refused", stdin=tracefile.encode(Trace(1, 16, 0, steps)))
+        self.assertEqual((status, err), (0, ""))
+        self.assertGreater(out.count(b"\n  refused 9\n  Node"), 100)

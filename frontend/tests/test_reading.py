@@ -1,6 +1,7 @@
 """What the programs say, taken apart: listings and stepper streams; and answers and refusals in words."""
 from __future__ import annotations
 
+import random
 import unittest
 
 from frontend import listing, refusals, stepper, text, tracefile, words
@@ -185,6 +186,21 @@ class Streams(unittest.TestCase):
             (block({}, 0, rows, domain=0) + after, "it has domain 0 before the first step"),
         ):
             self.assert_misfit(data + end, trace, reason)
+
+    def test_which_rows_changed(self):
+        source, sets = random.Random(33), 70
+        rows = {number: Row(0, 0, number, (number, 0)) for number in range(sets)}
+        parts, due = [block({}, 0, rows)], [rows]
+        for place in range(60):
+            many = source.choice((0, 1, 1, 2, 15, sets)) if place % 3 else 1
+            changed = {number: Row(1, 0, place + 100, (number, place)) for number in source.sample(range(sets), many)}
+            rows = {**rows, **changed}
+            shown = rows if place % 3 else {number: rows[number] for number in changed}
+            parts.append(block({}, 0, shown, domain=0))
+            due.append(changed)
+        stream = parsed(b"".join((*parts, held({}))), Trace(sets, 2, 0, (Step(0, 16, 0),) * 60))
+        self.assertEqual([dict(each.rows) for each in stream.blocks], due)
+        self.assertEqual(stepper.rows_at_end(stream.blocks), rows)
 
     def test_the_order_of_lines_held(self):
         rows = {number: Row(0, 0, 0, (0,) * 16) for number in range(256)}

@@ -92,6 +92,12 @@ class Programs(unittest.TestCase):
         self.assertRegex(out, r"\n  0-255  none \(0x0\)  none \(0x0\)  0x0123_4567_89ab_cdef \(oldest first 0 1 2 .* 15\)( +0){16}\n$")
         self.assertIn("\n  core 3: CS 3, DS 2, ES 1\n  the other 31 cores: all", call("state", "-", stdin=data)[1].decode())
 
+    def test_rows_that_are_not_alike_have_lines_of_their_own(self):
+        steps = tracefile.Step(0, 16, 0x3_0003), tracefile.Step(0, 1, 64), tracefile.Step(0, 2, 128), tracefile.Step(0, 2, 192)
+        out = call("state", "-", stdin=tracefile.encode(tracefile.Trace(8, 2, 1, steps)))[1].decode()
+        rows = [line.split()[0] for line in out.partition("\nTables\n")[2].splitlines()[1:]]
+        self.assertEqual(rows, ["0", "1", "2-3", "4-7"])  # all tags are zero; set 1 has a line, and sets 2 and 3 dirty ones
+
     def test_every_moment_of_a_run(self):
         source = random.Random(31)
         for _ in range(3):

@@ -99,6 +99,17 @@ class Forms(unittest.TestCase):
         expected = f"{policies}0 store 0x0\n0 load 0x40\n"
         self.assertTrue(shown.startswith("sets 1\nways 4\nrule tree\n\n" + expected), shown)
 
+    def test_maps_in_hexadecimal(self):
+        for argument, line in (
+            (0x0003_000F, "0 policy hit=0-3 fill=0,1  # 0xf 0x3"),
+            (0x0000_8000, "0 policy hit=way15 fill=none  # 0x8000 0x0"),
+            (0, "0 policy hit=none fill=none  # 0x0 0x0"),
+            (0x1_0000_0000, "0 policy arg=0x1_0000_0000"),
+        ):
+            trace = Trace(1, 16, 0, (Step(0, 16, argument),))
+            self.assertEqual(text.show(trace).splitlines()[-1], line)
+            self.assertEqual(assemble("one", text.show(trace).encode()), trace)
+
     def test_canonical_text_without_steps(self):
         for rule, name in ((0, "tree"), (1, "nru"), (2, "lru"), (3, "3"), (9, "9")):
             self.assertEqual(text.show(Trace(2, 8, rule, ())), f"sets 2\nways 8\nrule {name}\n")
