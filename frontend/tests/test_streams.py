@@ -20,9 +20,9 @@ BIG = Trace(1, 2, 0, (Step(0, 0, 0),) * 4096)
 LIMIT = 8192
 
 
-def small_files() -> None:
+def small_files(limit: int = LIMIT) -> None:
     """Let this process write no file beyond a size; Python ignores the signal, so that a write is cut there."""
-    resource.setrlimit(resource.RLIMIT_FSIZE, (LIMIT, LIMIT))
+    resource.setrlimit(resource.RLIMIT_FSIZE, (limit, limit))
 
 
 class Trickle(io.RawIOBase):
@@ -68,10 +68,11 @@ class Whole(InFolder):
 
     @needs_programs
     def test_a_story_that_is_cut(self):
-        with open(self.folder / "out", "wb") as out:
-            status, _, err = ended("explain", self.big, stdout=out, preexec_fn=small_files)
-        said = "dipperlock: cannot write standard output: File too large; 8,192 bytes were written\n"
-        self.assertEqual((status, err, (self.folder / "out").stat().st_size), (3, said, LIMIT))
+        for limit in (8192, 200_000):  # within the first piece, and behind it
+            with open(self.folder / "out", "wb") as out:
+                status, _, err = ended("explain", self.big, stdout=out, preexec_fn=lambda: small_files(limit))
+            said = f"dipperlock: cannot write standard output: File too large; {limit:,} bytes were written\n"
+            self.assertEqual((status, err, (self.folder / "out").stat().st_size), (3, said, limit))
 
     def test_lines_are_written_as_they_come(self):
         lines = [f"{number:05}" for number in range(100_000)]
