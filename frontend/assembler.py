@@ -6,12 +6,11 @@ from dataclasses import dataclass
 from frontend.source import Line, Source, Token, close_to, unknown
 from frontend.stepline import is_core, is_kind, read_step, unnamed
 from frontend.text import CORE
-from frontend.tracefile import LARGEST_BYTE, MAX_SETS, MAX_STEPS, RULES, SETS_LIMIT, Step, Trace
+from frontend.tracefile import LARGEST_BYTE, MAX_SETS, MAX_STEPS, RULE_NUMBERS, SETS_LIMIT, Step, Trace
 
 _DIGITS = "0123456789"
 _HEADERS = {"sets": (MAX_SETS, "sets 64"), "ways": (LARGEST_BYTE, "ways 8"), "rule": (LARGEST_BYTE, "rule tree")}
 _LIMITS = {"sets": SETS_LIMIT}  # what is told of a number that is too large, if not how far such numbers go
-_RULE_NUMBERS = {**{name: number for number, name in RULES.items()}, "tree-plru": 0}
 _RULES_ARE = "Rules are tree (or tree-plru), nru, lru, or a number"
 _NO_WORD = "domain"  # what somebody may write who writes `core 3`
 _LINES_ARE = f"A line is 'sets N', 'ways N', 'rule NAME' or a step, 'DOMAIN KIND ARGUMENT' or '{CORE} N KIND ARGUMENT'"
@@ -135,9 +134,9 @@ def _header_value(line: Line, word: str) -> int | None:
         return line.read_number(token, 0, largest, f"the number of {word}", _LIMITS.get(word))
     if token.text[0] in _DIGITS:
         return line.read_number(token, 0, largest, "the number of a rule")
-    if token.text not in _RULE_NUMBERS:
+    if token.text not in RULE_NUMBERS:
         line.fault(token, unknown("rule", token.text, _rule_meant(token.text), _RULES_ARE))
-    return _RULE_NUMBERS.get(token.text)
+    return RULE_NUMBERS.get(token.text)
 
 
 def _rule_meant(word: str) -> str | None:
@@ -145,7 +144,7 @@ def _rule_meant(word: str) -> str | None:
 
     Likeness is not enough: LRU, PLRU and NRU are three rules, and whoever wants one is not helped by another's name."""
     letters = _letters(word)
-    return next((name for name in _RULE_NUMBERS if len(letters) > 1 and _letters(name).startswith(letters)), None)
+    return next((name for name in RULE_NUMBERS if len(letters) > 1 and _letters(name).startswith(letters)), None)
 
 
 def _letters(word: str) -> str:

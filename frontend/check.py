@@ -18,7 +18,7 @@ from frontend.quote import cut
 from frontend.records import Record
 from frontend.stepper import Row
 from frontend.table import columns
-from frontend.telling import Teller, Told, Wanted
+from frontend.telling import Teller, Told, Wanted, programs_for
 from frontend.tracefile import POLICY
 
 OTHER, MISSING, EXTRA, SECOND = "other", "missing", "extra", "second"  # how a line differs, or that there is none
@@ -28,7 +28,6 @@ _WIDTH = 100
 _INDENT = " " * 12  # as wide as what stands before an answer
 _NO_LINE = "no line"
 _HEADER = ("sets", "ways", "rule", "steps")
-_SHARED_NODE = Reading("refused", (9,))  # the answer whose reason the program `parts` knows
 
 
 class Difference(NamedTuple):
@@ -142,7 +141,8 @@ def _scenes(given: Given, told: list[Difference]) -> dict[int, Scene]:
     steps = {difference.number: difference.expected for difference in told if difference.of == STEP and difference.expected}
     if not steps:
         return {}
-    programs.need("lister", "stepper", *(["parts"] if _SHARED_NODE in steps.values() else []))
+    answers = [Answer(*expected) for expected in steps.values()]
+    programs.need("lister", "stepper", *programs_for(answers))
     taken = run.take(given.name, given.data)
     moments = (moment for moment in run.moments(taken) if moment.place in steps)
     found = Teller(given, taken.trace, Wanted()).tell(moments)

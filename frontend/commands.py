@@ -10,9 +10,7 @@ from frontend.files import Given
 from frontend.logform import Log
 from frontend.numbers import counted
 from frontend.picture import drawing, plot
-from frontend.telling import Teller, Wanted
-
-_SHARED_NODE = ("refused", (9,))  # the answer whose reason the program `parts` knows
+from frontend.telling import Teller, Wanted, programs_for
 
 
 def list_trace(args: argparse.Namespace) -> int:
@@ -76,8 +74,7 @@ def explain_trace(args: argparse.Namespace) -> int:
     """Tell a run step by step."""
     given = _read(args, "lister", "stepper")
     taken, wanted = run.take(given.name, given.data), _wanted(args)
-    if any((answer.word, answer.fields) == _SHARED_NODE for answer in taken.listing.answers):
-        programs.need("parts")
+    programs.need(*programs_for(taken.listing.answers))
     steps = Teller(given, taken.trace, wanted).tell(run.moments(taken))
     if args.json:
         lines = records.lines(explain.tell_records(taken, given.title, steps, wanted.all))

@@ -11,6 +11,8 @@ from frontend.numbers import counted
 from frontend.run import Run
 from frontend.tracefile import LRU, POLICY, Step
 
+_NO_LINE = "none"  # what stands for the line of a domain that has none
+
 
 @dataclass(frozen=True)
 class Compared:
@@ -87,15 +89,18 @@ def _pairs(whole: Run, struck: Run, chosen: Callable[[Run, int], bool], view: Ca
 
 
 def _counts(whole: Run, struck: Run, domain: int) -> list[Ending]:
-    """Compare the domain's line at the end of the listing, which has its counts."""
+    """Compare the domain's line at the end of the listing, which has its counts; of a domain without a line, the counts too."""
     lines = [_domain_line(run.listing, domain) for run in (whole, struck)]
-    return [Ending((lines[0], lines[1]), "line of the listing")]
+    endings = [Ending((lines[0], lines[1]), "line of the listing")]
+    if _NO_LINE in lines:
+        endings.append(Ending((words.counts(whole.end.counts[domain]), words.counts(struck.end.counts[domain])), "counts"))
+    return endings
 
 
 def _domain_line(listing: Listing, domain: int) -> str:
     """Give the domain's line at the end of a listing."""
     counts = listing.counts.get(domain)
-    return "none" if counts is None else " ".join(map(str, ("domain", domain, *counts)))
+    return _NO_LINE if counts is None else " ".join(map(str, ("domain", domain, *counts)))
 
 
 def _maps(whole: Run, struck: Run, domain: int) -> list[Ending]:

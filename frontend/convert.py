@@ -14,13 +14,12 @@ from frontend import addresses, files, maps, streams, text, tracefile, words
 from frontend.errors import DONE, BadInput, MachineFailure, reason
 from frontend.numbers import counted
 from frontend.quote import quoted
-from frontend.tracefile import MAX_SETS, NUMBERS_OF_WAYS, POLICY, RULES, Step, Trace
+from frontend.tracefile import MAX_SETS, NUMBERS_OF_WAYS, POLICY, RULE_NUMBERS, Step, Trace
 
 ROOM = tracefile.MAX_STEPS - 1  # accesses of a window; its first step is the policy change
 WINDOW = "{window}"  # what stands in a file's name for the number of a window
 _PIECE = 1 << 18  # bytes of an address trace that are read at a time
 _SETS = tuple(1 << power for power in range(MAX_SETS.bit_length()))
-_RULE_NUMBERS = {**{name: number for number, name in RULES.items()}, "tree-plru": 0}
 
 
 @dataclass(frozen=True)
@@ -95,7 +94,7 @@ def _convert_one(args: argparse.Namespace, head: Head, windows: Windows) -> int:
     if not steps:
         there = "there is one window, 0" if windows.count == 1 else f"there are {windows.count:,}, 0 to {windows.count - 1:,}"
         raise BadInput(f"{files.title(args.file)} has no window {wanted:,}; {there}")
-    files.write(args.output, _contents(args.output, data, windows.note(wanted)))
+    files.write(args.output, text.contents(args.output, data, windows.note(wanted)))
     where = "standard output" if args.output == files.STREAM else files.title(args.output)
     made = f"{_accesses(steps - 1)}, {counted(steps, 'step')}"
     more = windows.count > 1 and args.window is None
@@ -114,7 +113,7 @@ def _convert_all(args: argparse.Namespace, head: Head, windows: Windows) -> int:
         kept.seek(0)
         for number in range(windows.count):
             name, data = _name(args.output, number), kept.read(tracefile.LARGEST_FILE)
-            _write_nth(name, _contents(name, data, windows.note(number)), number, windows.count)
+            _write_nth(name, text.contents(name, data, windows.note(number)), number, windows.count)
     made = f"{_accesses(windows.accesses)}, {counted(windows.accesses + windows.count, 'step')}"
     each = counted(windows.count, "window") + (", each in its own file" if windows.count > 1 else "")
     streams.tell(f"{files.title(args.output)}: {head.told()}, {each}, {made}")
@@ -142,13 +141,6 @@ def _write_nth(name: str, data: bytes, number: int, count: int) -> None:
 def _name(output: str, number: int) -> str:
     """Give the name of a window's file."""
     return output.replace(WINDOW, str(number))
-
-
-def _contents(name: str, data: bytes, note: str) -> bytes:
-    """Give what is written under a name for a trace file: a text if the name ends so, with a note where it comes from."""
-    if not name.lower().endswith(files.TEXT):
-        return data
-    return f"# {note}\n{text.show(tracefile.decode(data))}".encode()
 
 
 def _form(args: argparse.Namespace) -> str:
@@ -192,7 +184,7 @@ def read_ways(word: str) -> int:
 
 def read_rule(word: str) -> int:
     """Read the option that names the rule."""
-    return _known(word, _RULE_NUMBERS, "rules are tree (or tree-plru), nru and lru")
+    return _known(word, RULE_NUMBERS, "rules are tree (or tree-plru), nru and lru")
 
 
 def read_map(word: str) -> int:

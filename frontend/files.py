@@ -13,9 +13,9 @@ from frontend import assembler, source, streams, tracefile
 from frontend.errors import BadInput, MachineFailure, reason
 from frontend.quote import named
 from frontend.replace import replace_file
+from frontend.text import NAME_END
 
 STREAM = "-"
-TEXT = ".txt"  # how the name of a trace text ends
 LARGEST_TEXT = 1024 * tracefile.MAX_STEPS  # bytes; that is ten times the longest line that `show` writes, for each step
 LARGEST_LOG = 4096 * tracefile.MAX_STEPS  # bytes
 _STANDARD_INPUT = 0
@@ -88,7 +88,7 @@ def read_trace(name: str) -> Given:
 
     A text is known by its name or by what it holds. The latter is never in doubt: a number of sets up to 256 has a byte 0,
     so that no trace file which the cache takes could be read as a text."""
-    by_name = name.lower().endswith(TEXT)
+    by_name = name.lower().endswith(NAME_END)
     with _opened(name) as stream:
         data = streams.read_up_to(stream, tracefile.LARGEST_FILE + 1)
         if not by_name and not source.is_text(data):

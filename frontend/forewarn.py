@@ -7,9 +7,9 @@ from collections.abc import Iterator
 
 from frontend import culprits
 from frontend.assembler import Assembled
+from frontend.source import MOST_SHOWN
 from frontend.tracefile import MAX_SETS, NUMBERS_OF_WAYS, RULES, Trace
 
-MOST_SHOWN = 20
 
 
 def of(read: Assembled) -> Iterator[str]:

@@ -70,8 +70,7 @@ def write_struck(args: argparse.Namespace, each: Isolated) -> None:
         return
     name = args.output.replace(DOMAIN, str(each.domain))
     files.refuse_same(args.file, name)  # a number in a name may make it another's
-    as_text = name.lower().endswith(files.TEXT)
-    files.write(name, text.show(each.struck.trace).encode("ascii") if as_text else tracefile.encode(each.struck.trace))
+    files.write(name, text.contents(name, tracefile.encode(each.struck.trace)))
 
 
 def render_one(name: str, whole: Run, found: list[Isolated], paint: Paint) -> Iterator[str]:

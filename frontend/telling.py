@@ -1,17 +1,19 @@
 """What there is to tell of a step: its source line, where its address lies, by which selector it goes, and its answer in words."""
 from __future__ import annotations
 
-from collections.abc import Iterator
+from collections.abc import Iterable, Iterator
 from dataclasses import dataclass
 from typing import NamedTuple
 
 from frontend import cores, culprits, maps, parts, words
 from frontend.culprits import Scene
 from frontend.files import Given
+from frontend.listing import Answer
 from frontend.run import Moment
 from frontend.stepper import Block
 from frontend.tracefile import ACCESSES, LINE_BYTES, NRU, POLICY, Step, Trace
 
+_SHARED_NODE = Answer("refused", (9,))
 _NO_ROWS = ("refused", "select")  # the answers of steps that change no row
 
 
@@ -62,6 +64,11 @@ def concerned(moment: Moment) -> list[int]:
     """List the sets that a step is about: those that it changed, and that of the address of an access or a flush."""
     changed = sorted(moment.after.rows)
     return sorted({moment.after.set, *changed}) if moment.step.kind in ACCESSES else changed
+
+
+def programs_for(answers: Iterable[Answer]) -> list[str]:
+    """List the programs that are needed to say what some answers mean: which nodes are shared, `parts` knows."""
+    return ["parts"] if _SHARED_NODE in answers else []
 
 
 class Teller:

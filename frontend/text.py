@@ -3,8 +3,9 @@ from __future__ import annotations
 
 from frontend import cores, maps
 from frontend.numbers import hexadecimal
-from frontend.tracefile import CORE_KINDS, KINDS, POLICY, RULES, SELECT, Step, Trace
+from frontend.tracefile import CORE_KINDS, KINDS, POLICY, RULES, SELECT, Step, Trace, decode
 
+NAME_END = ".txt"  # of a trace text
 CORE = "core"  # what stands before the number of a core; a number alone is a domain
 
 
@@ -21,6 +22,13 @@ def _show_line(step: Step) -> str:
     if step.kind != POLICY or step.argument >> 2 * maps.WAYS:
         return line
     return f"{line}  # {step.argument & maps.LARGEST:#x} {step.argument >> maps.WAYS:#x}"
+
+
+def contents(name: str, data: bytes, note: str = "") -> bytes:
+    """Give what is written under a name for a trace file: a text if the name ends so, with a note as its first line, else the file."""
+    if not name.lower().endswith(NAME_END):
+        return data
+    return (f"# {note}\n" if note else "").encode() + show(decode(data)).encode("ascii")
 
 
 def show_step(step: Step) -> str:

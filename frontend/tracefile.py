@@ -19,6 +19,7 @@ ACCESSES = frozenset((*KINDS, *CORE_KINDS)) - {POLICY, SELECT}  # the kinds of a
 LINE_BYTES = 64
 NRU, LRU = 1, 2
 RULES = {0: "tree", NRU: "nru", LRU: "lru"}
+RULE_NUMBERS = {**{name: number for number, name in RULES.items()}, "tree-plru": 0}  # by the names that people may give
 LARGEST_BYTE = 0xFF
 LARGEST_ARGUMENT = 0xFFFF_FFFF_FFFF_FFFF
 

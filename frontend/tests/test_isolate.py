@@ -181,6 +181,15 @@ class Compare(unittest.TestCase):
         self.assertRegex(told, r"\n\* +line of the listing +domain 0 0 2 1 0 0 2 0 +none +<- first difference\n")
         self.assertIn("First difference: at the end, line of the listing:", told)
 
+    def test_counts_of_a_domain_without_a_line(self):
+        none, trace = (0,) * 7, Trace(1, 2, 1, (Step(9, 99, 0),))
+        for counts, same in ((none, True), ((*none[1:], 1), False), ((1, *none[1:]), False)):
+            streams = (FRESH + block({}, domain=9, counts={9: said}) + held({}) for said in (none, counts))
+            whole, struck = (taken(trace, b"1 2 1 1\n0 refused 4\n", stream) for stream in streams)
+            found = compare(whole, struck, 9)
+            names = [ending.name for ending in found.endings[:2]]
+            self.assertEqual((names, found.differences() == []), (["line of the listing", "counts"], same), counts)
+
     def test_different_line_in_its_way(self):
         stream = struck_stream(block(BOTH, 0, {0: Row(1, 1, 2, (1, 0))}, 1, 0))
         first = self.found(stream=stream).differences()[0]

@@ -445,7 +445,8 @@ class Much(unittest.TestCase):
         turns = tuple(Step(0, 16, 0x10001 << place % 16) for place in range(2048))  # under true LRU each changes every row
         halves = tuple(Step(0, 16, 0xFF00FF << 8 * (place % 2)) for place in range(2048))
         each = tuple(Step(place % 16, 16 if place < 16 else 2, 0x10001 << place if place < 16 else 64 * place) for place in range(4096))
-        for rule, steps in ((2, turns), (1, halves), (0, halves)):
+        stores = tuple(step for place, half in enumerate(halves) for step in (half, Step(0, 2, 64 * (37 * place % 4096))))
+        for rule, steps in ((2, turns), (1, halves), (0, halves), (0, stores)):
             for arguments in (("explain",), ("explain", "--json", "--step", "0-9"), ("isolate", "--all"), ("plot", "-o", "-")):
                 used = self.most(Trace(256, 16, rule, steps), *arguments)
                 self.assertLess(used, self.ROOM, (rule, arguments))
