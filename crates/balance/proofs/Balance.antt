@@ -27,7 +27,7 @@ use Rattle.cores.specs.Step.{Lent, answerBy, cacheBy, coreStep}
 use Rattle.cores.specs.Run.{coreAnswers, coreFinally, freshLent}
 use Rattle.cores.proofs.RunLaws.{Standing, fresh-standing, step-means, step-standing, run-plain}
 use Rattle.balance.specs.Tally.{tallied, tally, talliedBy, coreTally}
-use Rattle.balance.specs.Balance.{InBalance, Balance, CoreBalance}
+use Rattle.balance.specs.Balance.{InBalance, Balance, CoreBalance, LinesInLinesOut, CoreLinesInLinesOut}
 use Rattle.balance.proofs.TallyLaws.{run-tallied}
 
 module _ (g : Geometry) (limits : within g ≡ true) (d : ℕ) (low : d < 16) where
@@ -54,10 +54,8 @@ module _ (g : Geometry) (limits : within g ≡ true) (d : ℕ) (low : d < 16) wh
       run-tallied g limits d cs (fresh g) (fresh-kept g limits)
       ∙ ap (λ (x : Domain). tally d cs (answersOf g cs (fresh g)) (x .counts)) (fresh-domain g limits d)
 
-  -- Balance. For every geometry within the limits, every domain and every list of steps whatever they name and ask for: lines in are lines out and lines
-  -- held, by the counts of the domain line, which the listing's own lines tell; and no policy change is refused by 7.
-  pub balance : (cs : List Command) → Balance g d cs
-  balance cs = record { in-balance = in-balance (finally g cs (fresh g)) (run-reached g cs); counts-told = fresh-told cs }
+  after : (cs : List Command) → Balance g d cs
+  after cs = record { in-balance = in-balance (finally g cs (fresh g)) (run-reached g cs); counts-told = fresh-told cs }
 
   -- ---- where core records are lent
 
@@ -80,9 +78,9 @@ module _ (g : Geometry) (limits : within g ≡ true) (d : ℕ) (low : d < 16) wh
       let next = rw (step-means g limits x s b) at later in
       rw (step-means g limits x s b) (next ∙ sym (tally-by m (plainSteps (recordsAfter (x .cores) b) cs) (x .cache) c))
 
-  pub core-balance : (n : ℕ) → n ≤ maxCores → (cs : List Command) → CoreBalance g d n cs
+  core-after : (n : ℕ) → n ≤ maxCores → (cs : List Command) → CoreBalance g d n cs
   unfolding freshLent
-  core-balance n few cs = record {
+  core-after n few cs = record {
     in-balance = rw end (whole .in-balance);
     counts-told = rw end (whole .counts-told ∙ sym (tally-plain cs (freshLent g n) stands noCounts));
   }
@@ -95,7 +93,16 @@ module _ (g : Geometry) (limits : within g ≡ true) (d : ℕ) (low : d < 16) wh
       plainly = plainSteps (freshCores n) cs
 
       whole : Balance g d (plainSteps (freshCores n) cs)
-      whole = balance plainly
+      whole = after plainly
 
       end : coreFinally g cs (freshLent g n) .cache ≡ finally g (plainSteps (freshCores n) cs) (fresh g)
       end = ap (λ (x : Lent). x .cache) (run-plain g limits cs (freshLent g n) stands)
+
+-- Balance. For every geometry within the limits, every domain and every list of steps whatever they name and ask for: lines in are lines out and lines
+-- held, by the counts of the domain line, which the listing's own lines tell; and no policy change is refused by 7.
+pub balance : LinesInLinesOut
+balance = after
+
+-- The same where core records are lent.
+pub core-balance : CoreLinesInLinesOut
+core-balance = core-after

@@ -1,12 +1,14 @@
 -- Lines in and lines out, over any list of steps from a fresh cache. Every point of a run is the end of the list up to there, so what is said of the end
 -- of any list is said of every point.
 use mathlib.Core.Path.{_≡_}
+use mathlib.Core.Bool.{true}
 use mathlib.Core.List.{List, [], _∷_}
-use Prim.Native.Nat.{ℕ}
+use Prim.Native.Nat.{ℕ, _≤_, _<_}
 use Rattle.command.specs.Command.{Command}
 use Rattle.domains.specs.Domains.{noCounts, domainOf}
+use Rattle.geometry.specs.Geometry.{within}
 use Rattle.geometry.specs.declared.Geometry.{Geometry}
-use Rattle.selectors.specs.Selectors.{freshCores}
+use Rattle.selectors.specs.Selectors.{maxCores, freshCores}
 use Rattle.steps.specs.Step.{State, step}
 use Rattle.steps.specs.Run.{answersOf, finally}
 use Rattle.steps.specs.Fresh.{fresh}
@@ -31,3 +33,10 @@ pub record CoreBalance (g : Geometry) (d n : ℕ) (cs : List Command) : Type 0 w
   pub in-balance : InBalance g d (coreFinally g cs (freshLent g n) .cache)
   pub counts-told : domainOf (coreFinally g cs (freshLent g n) .cache .domains) d .counts
       ≡ coreTally d (freshCores n) cs (coreAnswers g cs (freshLent g n)) noCounts
+
+-- Lines in and lines out: so it is for every geometry within the limits, every domain and every list of steps; and for every number of records up to 32.
+abbrev pub LinesInLinesOut : Type 0
+LinesInLinesOut = (g : Geometry) → within g ≡ true → (d : ℕ) → d < 16 → (cs : List Command) → Balance g d cs
+
+abbrev pub CoreLinesInLinesOut : Type 0
+CoreLinesInLinesOut = (g : Geometry) → within g ≡ true → (d : ℕ) → d < 16 → (n : ℕ) → n ≤ maxCores → (cs : List Command) → CoreBalance g d n cs

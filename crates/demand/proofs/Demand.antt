@@ -13,7 +13,7 @@ use Rattle.steps.proofs.RunLaws.{run-kept}
 use Rattle.purge.specs.Purge.{purge}
 use Rattle.isolation.specs.StruckOut.{StruckOut}
 use Rattle.isolation.proofs.Isolation.{isolation}
-use Rattle.demand.specs.Demand.{Limits, fresh, events, end, struckOut, seen, seenIn, WellFormed, Demand}
+use Rattle.demand.specs.Demand.{Limits, fresh, events, end, struckOut, seen, seenIn, WellFormed, Demand3}
 use Rattle.demand.proofs.OrderLaws.{orders-last}
 use Rattle.demand.proofs.LimitLaws.{ways-sized, within-limits, fresh-is}
 use Rattle.demand.proofs.RunLaws.{struck-is, end-is, own-is, verdictIn, verdicts-are}
@@ -58,5 +58,5 @@ module _ (g : Geometry) (l : Limits g) (d : ℕ) where
 
 -- Demand 3. For every geometry within the limits, every domain and every list of steps whatever they name and ask for: what the domain is told
 -- and sees is the same in the run of the list and in the run of the struck-out list.
-pub demand : (g : Geometry) → Limits g → (d : ℕ) → d < 16 → (cs : List Command) → Demand g d cs
+pub demand : Demand3
 demand g l d low cs = record { same = cc (seen-same g l d low cs); well-formed = formed g l d cs; well-formed-too = formed g l d (struckOut d cs) }

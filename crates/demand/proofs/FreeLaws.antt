@@ -14,6 +14,7 @@ use Rattle.tree.specs.Tree.{left, right, under, holds, free}
 use Rattle.tree.proofs.TreeLaws.{passes-back, under-split, under-root, under-leaf, free-node}
 use Rattle.tree.proofs.PathLaws.{doubled, holds-block}
 use Rattle.demand.specs.Free.{digit, someIn, freeFrom, isFree}
+use Rattle.demand.specs.Statements.{FreeIs}
 
 -- ---- the ways of a range
 
@@ -104,7 +105,7 @@ free-from W map i (suc r) (suc k) count p enough whole h =
     ) (gather (eqb (count - 1 + p) i) _ _ _ _ _ (λ t. ap (free W (bit map)) (eqb-true (count - 1 + p) i t)))
 
 -- From the root on, the nodes found are the free nodes: every place stands below the root, and sixteen ways are halved four times.
-pub free-is : (W : ℕ) → Sized W → (map i : ℕ) → isFree W map i ≡ free W (bit map) i
+pub free-is : FreeIs
 unfolding isFree below
 free-is W s map i =
     ap₂ (λ (low size : ℕ). freeFrom 4 map 0 low size i) (omega arith) (s .power)

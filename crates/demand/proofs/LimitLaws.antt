@@ -23,6 +23,7 @@ use Rattle.geometry.proofs.GeometryLaws.{limited}
 use Rattle.steps.specs.Fresh as Fresh
 use Rattle.demand.specs.Order.{freshWord}
 use Rattle.demand.specs.Demand.{Limits, fresh}
+use Rattle.demand.specs.Statements.{WithinLimits, LimitsWithin, FreshIs}
 use Rattle.demand.proofs.OrderLaws.{fresh-word}
 
 -- ---- the limits, both ways
@@ -47,7 +48,7 @@ ways-are g l = ways-known (g .ways) (l .ways-log) (l .ways-power) (omega (arith,
 pub ways-sized : (g : Geometry) → Limits g → Sized (g .ways)
 ways-sized g l = NumberLaws.sized (g .ways) (ways-are g l)
 
-pub within-limits : (g : Geometry) → Limits g → within g ≡ true
+pub within-limits : WithinLimits
 unfolding within isPower inLimits
 within-limits g l =
     rw (
@@ -63,7 +64,7 @@ within-limits g l =
         (eq-eqb (g .sets) (2 ^ l .sets-log) (l .sets-power))
 
 -- so nothing within the product's limits is left out
-pub limits-within : (g : Geometry) → within g ≡ true → Limits g
+pub limits-within : LimitsWithin
 unfolding within isPower inLimits
 limits-within g e =
     let power = any-found 64 (λ (k : ℕ). eqb (g .sets) (2 ^ k)) (and-left (isPower (g .sets)) (leb (g .sets) maxSets) front) in
@@ -97,6 +98,6 @@ word-is (suc zero) W h k =
 word-is (suc (suc zero)) W h k = fresh-word W
 word-is (suc (suc (suc r))) W h k = absurd (omega arith)
 
-pub fresh-is : (g : Geometry) → Limits g → fresh g ≡ Fresh.fresh g
+pub fresh-is : FreshIs
 unfolding fresh Fresh.fresh Fresh.freshTables Fresh.freshDomains
 fresh-is g l = rw (word-is (g .rule) (g .ways) (omega (arith, l .rule-known)) (omega (arith, l .ways-most)))

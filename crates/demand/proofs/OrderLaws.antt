@@ -24,6 +24,7 @@ use Rattle.steps.specs.Fresh.{fresh}
 use Rattle.steps.proofs.WordLaws.{Lasting, words-last}
 use Rattle.lru.proofs.PlaceLaws.{shifted, places-long, places-below, word-lt, word-places}
 use Rattle.demand.specs.Order.{freshWord, wayAt, howMany, firstOf, isOrder, placeOf}
+use Rattle.demand.specs.Statements.{BeforeIs, OrdersLast}
 
 -- ---- a fresh word
 
@@ -155,7 +156,7 @@ place-is W x w h =
     (λ t. rw (order-is W x, t) (sym (fresh-index W w h)))
     (λ t. rw (order-is W x, t) (places-index W x w))
 
-pub before-is : (W x v w : ℕ) → v < W → w < W → ltb (placeOf W x v) (placeOf W x w) ≡ before (order W x) v w
+pub before-is : BeforeIs
 before-is W x v w h k = rw (place-is W x v h, place-is W x w k) (before-index (order W x) v w)
 
 -- ---- in a run every word holds an order
@@ -168,8 +169,7 @@ lru-lasts W small = record {
   reset = λ old new x formed. reset-formed W small (bit old) (bit new) x formed;
 }
 
-pub orders-last : (g : Geometry) → within g ≡ true → (cs : List Command) → g .rule ≡ 2 → (i : ℕ) → i < g .sets
-    → isOrder (g .ways) (getD (finally g cs (fresh g) .tables .words) i 0) ≡ true
+pub orders-last : OrdersLast
 unfolding rowAt
 orders-last g limits cs two i h =
     order-is (g .ways) (getD (finally g cs (fresh g) .tables .words) i 0)

@@ -14,8 +14,9 @@ use Rattle.steps.proofs.AnswerLaws.{PolicyAnswer, changed, turned-down, policy-
 use Rattle.purge.specs.Purge.{keeps, purge}
 use Rattle.isolation.specs.StruckOut as Iso
 use Rattle.demand.specs.Demand.{events, end, struckOut, ownAnswers, Verdict, accepted, refused, verdictOf, verdicts}
+use Rattle.demand.specs.Statements.{EndIs, StruckIs}
 
-pub struck-is : (d : ℕ) (cs : List Command) → struckOut d cs ≡ purge d cs
+pub struck-is : StruckIs
 unfolding struckOut purge keeps
 struck-is d [] = refl
 struck-is d (c ∷ cs) =
@@ -24,7 +25,7 @@ struck-is d (c ∷ cs) =
     (λ t. cases (eqb (c .domain) d) (λ u. rw (t, u) more) (λ u. rw (t, u) (struck-is d cs)))
     (λ t. cases (eqb (c .domain) d) (λ u. rw (t, u) more) (λ u. rw (t, u) more))
 
-pub end-is : (g : Geometry) (cs : List Command) (s : State) → end g cs s ≡ finally g cs s
+pub end-is : EndIs
 unfolding end finally
 end-is g [] s = refl
 end-is g (c ∷ cs) s = end-is g cs (stepOn g c s .state)

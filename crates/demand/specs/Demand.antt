@@ -182,3 +182,8 @@ pub record Indistinguishable (g : Geometry) (d : ℕ) (cs ds : List Command) : T
 -- Demand 3 of a list of steps: a list and its struck-out list.
 abbrev pub Demand : Geometry → ℕ → List Command → Type 0
 Demand g d cs = Indistinguishable g d cs (struckOut d cs)
+
+-- Demand 3: so it is for every geometry within the limits, every domain, and every list of steps of any length, whatever domains, kinds and arguments
+-- they have.
+abbrev pub Demand3 : Type 0
+Demand3 = (g : Geometry) → Limits g → (d : ℕ) → d < 16 → (cs : List Command) → Demand g d cs

@@ -2,3 +2,4 @@
 pub mod Free
 pub mod Order
 pub mod Demand
+pub mod Statements

@@ -19,7 +19,7 @@ use Rattle.command.specs.Command.{Command}
 use Rattle.steps.specs.Run.{stepOn, answersOf, finally}
 use Rattle.steps.specs.Fresh.{fresh}
 use Rattle.purge.specs.Purge.{belongs, keeps, purge}
-use Rattle.isolation.specs.StruckOut.{answersTo, ownAnswers, numberOf, verdicts, SameTo, StruckOut}
+use Rattle.isolation.specs.StruckOut.{answersTo, ownAnswers, numberOf, verdicts, SameTo, Isolation}
 use Rattle.isolation.specs.Lookups.{along}
 use Rattle.isolation.proofs.Relation.{Related}
 use Rattle.isolation.proofs.RowUnwinding.{view-same}
@@ -115,7 +115,7 @@ module _ (g : Geometry) (limits : within g ≡ true) (d : ℕ) (low : d < 16) wh
 
 -- Isolation. For every geometry within the limits, every domain and every list of steps whatever they name and ask for: strike the
 -- accesses and flushes of the other domains out, and the domain sees no difference.
-pub isolation : (g : Geometry) → within g ≡ true → (d : ℕ) → d < 16 → (cs : List Command) → StruckOut g d cs
+pub isolation : Isolation
 isolation g limits d low cs = record {
   answers-same = answers-from g limits d low cs (fresh g) (fresh g) (fresh-related g limits d low);
   verdicts-same = verdicts-from g limits d low cs (fresh g) (fresh g) (fresh-related g limits d low);

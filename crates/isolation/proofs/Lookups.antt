@@ -24,7 +24,7 @@ use Rattle.steps.proofs.SetLaws.{row-long}
 use Rattle.command.specs.Command.{Command}
 use Rattle.purge.specs.Purge.{belongs, purge}
 use Rattle.purge.proofs.KeepLaws.{struck}
-use Rattle.isolation.specs.Lookups.{lookupAt, visitedAt, visitsOf, ownVisits, SameLookups}
+use Rattle.isolation.specs.Lookups.{lookupAt, visitedAt, visitsOf, ownVisits, Lookups}
 use Rattle.reached.proofs.Reached.{reached-whole}
 use Rattle.isolation.proofs.Relation.{Related}
 use Rattle.isolation.proofs.Unwinding.{output-consistent}
@@ -61,7 +61,7 @@ module _ (g : Geometry) (limits : within g ≡ true) (d : ℕ) (low : d < 16) (a
 
 -- The chosen domain's steps, in the run of any list and in its struck-out run, visit as many ways, and its lookups after both, of any address, are the
 -- same.
-pub lookups : (g : Geometry) → within g ≡ true → (d : ℕ) → d < 16 → (cs : List Command) → SameLookups g d cs
+pub lookups : Lookups
 unfolding ownVisits
 lookups g limits d low cs = record {
   visits-same =

@@ -1,12 +1,13 @@
 -- What a lookup of the chosen domain tells in the run and in the struck-out run. Document 01 does not ask for it: how many ways a lookup visits is in no
 -- answer, but in a cache it would show in time.
 use mathlib.Core.Path.{_≡_}
-use mathlib.Core.Bool.{Bool, cond, _&&_}
+use mathlib.Core.Bool.{Bool, true, cond, _&&_}
 use mathlib.Core.List.{List, [], _∷_}
-use Prim.Native.Nat.{ℕ}
+use Prim.Native.Nat.{ℕ, _<_}
 use lib.Dec.{eqb, leb}
 use Rattle.row.specs.Calls.{lookupOf, visitedOf}
 use Rattle.domains.specs.Domains.{domainOf, mapsOf}
+use Rattle.geometry.specs.Geometry.{within}
 use Rattle.geometry.specs.declared.Geometry.{Geometry}
 use Rattle.geometry.specs.Address.{setOf, tagOf}
 use Rattle.steps.specs.Tables.{rowAt}
@@ -45,3 +46,7 @@ pub record SameLookups (g : Geometry) (d : ℕ) (cs : List Command) : Type 0 whe
   pub visits-same : ownVisits g d cs (fresh g) ≡ ownVisits g d (purge d cs) (fresh g)
   pub answer-same : (address : ℕ) → lookupAt g d address (finally g cs (fresh g)) ≡ lookupAt g d address (finally g (purge d cs) (fresh g))
   pub visited-same : (address : ℕ) → visitedAt g d address (finally g cs (fresh g)) ≡ visitedAt g d address (finally g (purge d cs) (fresh g))
+
+-- So it is for every geometry within the limits, every domain and every list of steps.
+abbrev pub Lookups : Type 0
+Lookups = (g : Geometry) → within g ≡ true → (d : ℕ) → d < 16 → (cs : List Command) → SameLookups g d cs

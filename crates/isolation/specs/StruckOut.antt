@@ -1,12 +1,13 @@
 -- What is equal in the run and in the struck-out run.
 use mathlib.Core.Path.{_≡_}
-use mathlib.Core.Bool.{Bool, cond, not, _&&_}
+use mathlib.Core.Bool.{Bool, true, cond, not, _&&_}
 use mathlib.Core.List.{List, [], _∷_, map}
 use Prim.Native.Nat.{ℕ, _<_}
 use lib.Dec.{eqb}
 use Rattle.replacement.specs.Rule.{ruleOf}
 use Rattle.row.specs.View.{SameView}
 use Rattle.domains.specs.Domains.{domainOf, policies}
+use Rattle.geometry.specs.Geometry.{within}
 use Rattle.geometry.specs.declared.Geometry.{Geometry}
 use Rattle.steps.specs.Tables.{rowAt}
 use Rattle.steps.specs.Step.{State}
@@ -47,3 +48,8 @@ pub record StruckOut (g : Geometry) (d : ℕ) (cs : List Command) : Type 0 where
   pub answers-same : ownAnswers g d cs (fresh g) ≡ ownAnswers g d (purge d cs) (fresh g)
   pub verdicts-same : verdicts g d cs (fresh g) ≡ verdicts g d (purge d cs) (fresh g)
   pub finally-same : SameTo g d (finally g cs (fresh g)) (finally g (purge d cs) (fresh g))
+
+-- Isolation: so it is for every geometry within the limits, every domain, and every list of steps of any length, whatever domains, kinds and arguments they
+-- have.
+abbrev pub Isolation : Type 0
+Isolation = (g : Geometry) → within g ≡ true → (d : ℕ) → d < 16 → (cs : List Command) → StruckOut g d cs

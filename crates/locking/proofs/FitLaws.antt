@@ -28,7 +28,7 @@ use Rattle.steps.specs.Fresh.{fresh}
 use Rattle.steps.specs.Inside.{changeNumber, lineWork}
 use Rattle.steps.proofs.StateLaws.{line-domain, line-domain-other, changed-domain, changed-other}
 use Rattle.steps.proofs.RunLaws.{run-lasts, Kept, fresh-kept, fresh-domain, worked, worked-long, line-kept, change-kept, inside}
-use Rattle.reached.specs.Reached.{Reached}
+use Rattle.locking.specs.Once.{HitsFit}
 
 -- the hits of counts fit 32 bits
 abbrev Fits : Counts → Type 0
@@ -100,5 +100,5 @@ module _ (g : Geometry) (limits : within g ≡ true) where
   run-fit cs = run-lasts g limits Fit (λ s q. q .kept .whole) line-fit change-fit cs (fresh g) fresh-fit
 
 -- In every state that a run reaches, each domain's hits fit 32 bits.
-pub hits-fit : (g : Geometry) → within g ≡ true → (s : State) → Reached g s → (d : ℕ) → d < 16 → domainOf (s .domains) d .counts .hits ≤ 4294967295
+pub hits-fit : HitsFit
 hits-fit g limits s r d low = subst (λ (t : State). Fits (domainOf (t .domains) d .counts)) (sym (r .is)) (run-fit g limits (r .past) .all d)

@@ -15,7 +15,7 @@ use Rattle.steps.specs.Step.{State}
 use Rattle.steps.specs.Run.{finally}
 use Rattle.steps.specs.Fresh.{fresh}
 use Rattle.locking.specs.Locked.{isLocked}
-use Rattle.locking.specs.Locking.{Stands, Unspent, rest, Unsteered, Locking}
+use Rattle.locking.specs.Locking.{Stands, Unspent, rest, Unsteered, LockedLines}
 use Rattle.reached.specs.Reached.{Reached}
 use Rattle.reached.proofs.Reached.{run-reached, reached-whole}
 use Rattle.locking.proofs.HoldLaws.{stays-over, hits-over}
@@ -50,7 +50,7 @@ module _ (g : Geometry) (limits : within g ≡ true) (d : ℕ) (low : d < 16) wh
 
 -- Locking. For every geometry within the limits, every domain, every state that a run from a fresh cache reaches, and every further list of steps, by
 -- anybody: a locked line stays while the domain lets it stand, the domain's accesses to it hit, and they steer nothing.
-pub locking : (g : Geometry) → within g ≡ true → (d : ℕ) → d < 16 → (past cs : List Command) → Locking g d cs (finally g past (fresh g))
+pub locking : LockedLines
 locking g limits d low past cs = record {
   stays = λ address w here stands. stays-over g limits d low address w cs (finally g past (fresh g)) (run-reached g past) here stands;
   hits = λ address w here stands unspent.

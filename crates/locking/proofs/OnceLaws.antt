@@ -38,7 +38,7 @@ use Rattle.steps.proofs.StateLaws.{line-policy, line-row, line-row-other, chang
 use Rattle.steps.proofs.DidLaws.{Did, turned-down, used, changed, did}
 use Rattle.steps.proofs.RunLaws.{Kept, worked, worked-long, inside}
 use Rattle.reached.proofs.SeparateLaws.{policy-cut}
-use Rattle.locking.specs.Once.{Has, OnceIn, Once}
+use Rattle.locking.specs.Once.{Has, OnceIn, Once, NoLineTwice}
 use Rattle.locking.proofs.RowLaws.{has-hit}
 use Rattle.reached.specs.Reached.{Reached}
 use Rattle.reached.proofs.Reached.{run-reached, step-reached, reached-kept, reached-separate}
@@ -262,7 +262,7 @@ module _ (g : Geometry) (limits : within g ≡ true) where
   once-from (c ∷ cs) s reached once = once-from cs (stepOn g c s .state) (step-reached g c s reached) (once-step s reached once c)
 
 -- No domain ever has a line twice.
-pub once : (g : Geometry) → within g ≡ true → (cs : List Command) → Once g (finally g cs (fresh g))
+pub once : NoLineTwice
 unfolding finally
 once g limits cs = once-from g limits cs (fresh g) (run-reached g []) (fresh-once g limits)
 

@@ -11,7 +11,7 @@ use Rattle.geometry.proofs.GeometryLaws.{limited}
 use Rattle.steps.specs.Tables.{rowAt}
 use Rattle.steps.specs.Step.{State}
 use Rattle.steps.proofs.WordLaws.{Lasting, words-last}
-use Rattle.reached.specs.Reached.{Reached}
+use Rattle.locking.specs.Once.{ReachedFits}
 
 module _ (g : Geometry) (limits : within g ≡ true) where
   -- the laws of the rule in use
@@ -26,7 +26,7 @@ module _ (g : Geometry) (limits : within g ≡ true) where
     reset = rule .reset-fits;
   }
 
-  pub reached-fits : (s : State) → Reached g s → (i : ℕ) → i < g .sets → rowAt (g .ways) i (s .tables) .word < 2 ^ 64
-  reached-fits s r i h =
-      subst (λ (t : State). rowAt (g .ways) i (t .tables) .word < 2 ^ 64) (sym (r .is))
-      (words-last g limits (λ (x : ℕ). x < 2 ^ 64) words (r .past) i h)
+pub reached-fits : ReachedFits
+reached-fits g limits s r i h =
+    subst (λ (t : State). rowAt (g .ways) i (t .tables) .word < 2 ^ 64) (sym (r .is))
+    (words-last g limits (λ (x : ℕ). x < 2 ^ 64) (words g limits) (r .past) i h)

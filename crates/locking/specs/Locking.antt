@@ -11,10 +11,12 @@ use Rattle.command.specs.Command.{Command}
 use Rattle.command.specs.declared.Answer.the-variants.{Hit}
 use Rattle.domains.specs.Domains.{domainOf, mapsOf, policies}
 use Rattle.domains.specs.declared.Counts.{Counts}
+use Rattle.geometry.specs.Geometry.{within}
 use Rattle.geometry.specs.declared.Geometry.{Geometry}
 use Rattle.steps.specs.Tables.{rowAt}
 use Rattle.steps.specs.Step.{State}
 use Rattle.steps.specs.Run.{stepOn, answersOf, finally}
+use Rattle.steps.specs.Fresh.{fresh}
 use Rattle.purge.specs.Purge.{belongs}
 use Rattle.isolation.specs.StruckOut.{answersTo, ownAnswers, numberOf}
 use Rattle.locking.specs.Locked.{lockedIn, isLocked, sameLine, SameUnlocked}
@@ -92,3 +94,8 @@ pub record Locking (g : Geometry) (d : ℕ) (cs : List Command) (s : State) : Ty
   pub hits : (address w : ℕ) → lockedIn g d s address w ≡ true → Stands g d (sameLine address) cs s → Unspent g d cs s
       → Answered g (accesses d (sameLine address)) (λ a. a ≡ answerOf (Hit w)) cs s
   pub unsteered : Stands g d (isLocked g d s) cs s → Unspent g d cs s → Unsteered g d cs s
+
+-- Locked lines: so it is for every geometry within the limits, every domain, every state that a run from a fresh cache reaches, after any list of steps, and
+-- every further list.
+abbrev pub LockedLines : Type 0
+LockedLines = (g : Geometry) → within g ≡ true → (d : ℕ) → d < 16 → (past cs : List Command) → Locking g d cs (finally g past (fresh g))

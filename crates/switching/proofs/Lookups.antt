@@ -15,7 +15,7 @@ use Rattle.isolation.proofs.Lookups.{lookups}
 use Rattle.cores.specs.Step.{Lent, cacheBy, coreStep}
 use Rattle.cores.specs.Run.{freshLent}
 use Rattle.cores.proofs.RunLaws.{Standing, step-means, step-standing, run-plain}
-use Rattle.switching.specs.Lookups.{alongBy, coreAlong, ownCoreVisits, CoreSameLookups}
+use Rattle.switching.specs.Lookups.{alongBy, coreAlong, ownCoreVisits, CoreLookups}
 use Rattle.switching.proofs.Switching.{stands, meant-purged}
 
 module _ (g : Geometry) (limits : within g ≡ true) {A : Type 0} (p : Command → Bool) (f : Command → State → A) where
@@ -37,7 +37,7 @@ module _ (g : Geometry) (limits : within g ≡ true) {A : Type 0} (p : Command �
       rw (step-means g limits x s c) (ap (alongBy p f m (x .cache)) next ∙ sym (along-by m (plainSteps (recordsAfter (x .cores) c) cs) (x .cache)))
 
 -- Where core records are lent too, the chosen domain's steps visit as many ways in both runs, and its lookups after both are the same.
-pub core-lookups : (g : Geometry) → within g ≡ true → (d : ℕ) → d < 16 → (n : ℕ) → n ≤ maxCores → (cs : List Command) → CoreSameLookups g d n cs
+pub core-lookups : CoreLookups
 unfolding ownCoreVisits ownVisits freshLent
 core-lookups g limits d low n few cs = record {
   visits-same = visited cs ∙ same .visits-same ∙ sym (visited purged ∙ ap visits gone);

@@ -4,7 +4,8 @@ use mathlib.Core.Path.{_≡_, refl, sym, ap, _∙_}
 use mathlib.Core.Bool.{Bool, true, cond, not, _&&_}
 use mathlib.Core.List.{List, [], _∷_, map}
 use Prim.Native.Nat.{ℕ, _≤_, _<_}
-use lib.Dec.{eqb}
+use lib.Dec.{eqb, ltb}
+use Rattle.waymap.proofs.Booleans.{cases}
 use Rattle.command.specs.Command.{Command}
 use Rattle.geometry.specs.Geometry.{within}
 use Rattle.geometry.specs.declared.Geometry.{Geometry}
@@ -12,14 +13,14 @@ use Rattle.selectors.specs.Selectors.{maxCores, freshCores, Meant, plain, selec
 use Rattle.steps.specs.Step.{State}
 use Rattle.steps.specs.Run.{answersOf}
 use Rattle.steps.specs.Fresh.{fresh}
-use Rattle.purge.specs.Purge.{belongs, purge, corePurge}
+use Rattle.purge.specs.Purge.{belongs, keeps, purge, corePurge}
 use Rattle.purge.proofs.CoreLaws.{purge-plain, purge-records}
 use Rattle.isolation.specs.StruckOut.{answersTo, ownAnswers, numberOf, verdicts, StruckOut}
 use Rattle.isolation.proofs.Isolation.{isolation}
 use Rattle.cores.specs.Step.{Lent, answerBy, cacheBy, coreStep}
 use Rattle.cores.specs.Run.{coreAnswers, freshLent}
 use Rattle.cores.proofs.RunLaws.{Standing, fresh-standing, step-means, step-standing, run-plain}
-use Rattle.switching.specs.StruckOut.{coreAnswersTo, ownCoreAnswers, coreVerdicts, CoreStruckOut}
+use Rattle.switching.specs.StruckOut.{coreAnswersTo, ownCoreAnswers, coreVerdicts, own, CoreStruckOut, Switching}
 
 module _ (g : Geometry) (limits : within g ≡ true) (p : Command → Bool) where
   -- the answers from one step on, by what it means
@@ -42,6 +43,15 @@ module _ (g : Geometry) (limits : within g ≡ true) (p : Command → Bool) wher
       rw (step-means g limits x s c)
       (ap (λ (l : List (List ℕ)). cond (means p m) (answerBy m g (x .cache) ∷ l) l) next
       ∙ sym (answers-by m (plainSteps (recordsAfter (x .cores) c) cs) (x .cache)))
+
+-- The chosen domain's steps are never struck out.
+own-purged : (d : ℕ) (cs : List Command) → own d (purge d cs) ≡ own d cs
+unfolding own purge keeps
+own-purged d [] = refl
+own-purged d (c ∷ cs) =
+    cases (belongs d c)
+    (λ t. rw t (rw t (ap (λ (l : List Command). c ∷ l) (own-purged d cs))))
+    (λ t. cases (ltb (c .kind) 4) (λ u. rw (t, u) (own-purged d cs)) (λ u. rw (t, u) (rw t (own-purged d cs))))
 
 module _ (g : Geometry) (limits : within g ≡ true) (d : ℕ) (low : d < 16) (n : ℕ) (few : n ≤ maxCores) (cs : List Command) where
   abbrev pub lent : Lent
@@ -75,14 +85,18 @@ module _ (g : Geometry) (limits : within g ≡ true) (d : ℕ) (low : d < 16) (n
   abbrev another : Command → Bool
   another c = eqb (c .kind) 16 && not (belongs d c)
 
-  -- Isolation where cores switch between domains. For every geometry within the limits, every domain, every number of records up to 32 and every list of steps:
-  -- strike out what belongs to other domains at its moment of the run, and the domain sees no difference.
-  pub switching : CoreStruckOut g d n cs
+  struck-out : CoreStruckOut g d n cs
   unfolding ownCoreAnswers coreVerdicts ownAnswers verdicts freshLent
-  switching = record {
+  struck-out = record {
+    steps-same = sym (own-purged d (meaning cs)) ∙ ap (own d) (sym meant-purged);
     answers-same = told (belongs d) cs ∙ same .answers-same ∙ sym (purged-told (belongs d));
     verdicts-same = ap (map numberOf) (told another cs) ∙ same .verdicts-same ∙ sym (ap (map numberOf) (purged-told another));
     finally-same = rw (run-plain g limits cs lent stands, run-plain g limits (corePurge d (freshCores n) cs) lent stands, meant-purged) (same .finally-same);
     records-same = ap (λ (x : Lent). x .cores) (run-plain g limits cs lent stands) ∙ sym (purge-records d cs (freshCores n))
         ∙ sym (ap (λ (x : Lent). x .cores) (run-plain g limits (corePurge d (freshCores n) cs) lent stands));
   }
+
+-- Isolation where cores switch between domains. For every geometry within the limits, every domain, every number of records up to 32 and every list of steps:
+-- strike out what belongs to other domains at its moment of the run, and the domain sees no difference.
+pub switching : Switching
+switching = struck-out

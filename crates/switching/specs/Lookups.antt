@@ -1,11 +1,12 @@
 -- What a lookup of the chosen domain tells in the run and in the struck-out run, where core records are lent. As without them, no document asks for it.
 use mathlib.Core.Path.{_≡_}
-use mathlib.Core.Bool.{Bool, cond}
+use mathlib.Core.Bool.{Bool, true, cond}
 use mathlib.Core.List.{List, [], _∷_}
-use Prim.Native.Nat.{ℕ}
+use Prim.Native.Nat.{ℕ, _≤_, _<_}
 use Rattle.command.specs.Command.{Command}
+use Rattle.geometry.specs.Geometry.{within}
 use Rattle.geometry.specs.declared.Geometry.{Geometry}
-use Rattle.selectors.specs.Selectors.{freshCores, Meant, plain, select, refused, meant}
+use Rattle.selectors.specs.Selectors.{maxCores, freshCores, Meant, plain, select, refused, meant}
 use Rattle.steps.specs.Step.{State}
 use Rattle.purge.specs.Purge.{belongs, corePurge}
 use Rattle.isolation.specs.Lookups.{lookupAt, visitedAt, visitsOf}
@@ -36,3 +37,7 @@ pub record CoreSameLookups (g : Geometry) (d n : ℕ) (cs : List Command) : Type
   pub visited-same : (address : ℕ)
       → visitedAt g d address (coreFinally g cs (freshLent g n) .cache)
       ≡ visitedAt g d address (coreFinally g (corePurge d (freshCores n) cs) (freshLent g n) .cache)
+
+-- So it is for every geometry within the limits, every domain, every number of records up to 32, and every list of steps.
+abbrev pub CoreLookups : Type 0
+CoreLookups = (g : Geometry) → within g ≡ true → (d : ℕ) → d < 16 → (n : ℕ) → n ≤ maxCores → (cs : List Command) → CoreSameLookups g d n cs
