@@ -33,7 +33,7 @@ use Rattle.demand.proofs.OrderLaws.{before-is}
 
 -- ---- numbers, lists and bits
 
-each-ext : {A : Type 0} (n : ℕ) (f g : ℕ → A) → ((i : ℕ) → i < n → f i ≡ g i) → each n f ≡ each n g
+pub each-ext : {A : Type 0} (n : ℕ) (f g : ℕ → A) → ((i : ℕ) → i < n → f i ≡ g i) → each n f ≡ each n g
 unfolding each
 each-ext zero f g e = refl
 each-ext (suc n) f g e = ap₂ _∷_ (e 0 (omega arith)) (each-ext n (λ (i : ℕ). f (suc i)) (λ (i : ℕ). g (suc i)) (λ i h. e (suc i) (omega arith)))

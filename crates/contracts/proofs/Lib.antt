@@ -1,0 +1,7 @@
+-- The contracts, held.
+pub mod Exactly
+pub mod Rules
+pub mod Sets
+pub mod Steps
+pub mod Lending
+pub mod Files
