@@ -6,10 +6,10 @@ source, or to be a must-fail edit, a crate, or a word of WORDS. On every page bu
   `a`, `b` in `file`        both are defined in that file; so too with a comma or a bracket before the file, and with
                             more files behind it, `a` in `file` and in `other`
   `crate::call`             the crate has a function of that name
-  | `a`; `b` | `f`; `g` |   in a table with a column for definitions and one for files: `a` is defined in f, and `b` in
-                            g; where one column has more parts than the other, each name is defined in one of the files;
-                            "the same" is the file of the row above. Each file has one of its row's names. What a
-                            definition is said to be over, or to go by, is defined anywhere
+  | `a`; `b` | `f`; `g` |   in a table with a column for definitions and one for files: `a` is defined in f, and `b`
+                            in g; where one column has more parts than the other, each name is defined in one of the
+                            files; "the same" is the file of the row above. Each file has one of its row's names. What
+                            a definition is said to be over, or to go by, is defined anywhere
 
 A source has the names that its contracts cite too, and a crate is in its own files.
 """
@@ -24,7 +24,8 @@ LIST = re.compile(r"(?:,|\s+and|\s+or|\s+\(with|,\s+with)\s+")  # between two na
 INTO = re.compile(r"\)?(?:,?\s+in\s+\[?|,\s+\[?|\s+\(\[?)")  # between names and their file
 MORE = re.compile(r"(?:\]\([^)]*\))?,?(?:\s+and)?\s+in\s+\[?")  # between that file and a further one
 ELSE = re.compile(r"(?:\]\([^)]*\))?(?:,|\s+and|\s+or)\s+\[?")  # between two files one of which has the name
-DECLARED = re.compile(r"\s*(?:(?:abbrev|unfoldable|opaque|pub|record|data)\s+)*([^\s(){}:;,=]+)(?:\s+[^:=]*|\s*[({].*)?:(?:\s|$)")
+DECLARED = re.compile(r"\s*(?:(?:abbrev|unfoldable|opaque|pub|record|data)\s+)*([^\s(){}:;,=]+)"
+                      r"(?:\s+[^:=]*|\s*[({].*)?:(?:\s|$)")
 IMPORT = re.compile(r"^\s*(?:pub\s+)?(?:ghost\s+)?use\s[^;]*;", re.MULTILINE)
 FUNCTION = re.compile(r"\b(?:fn|struct|enum|const|static)\s+([A-Za-z_]\w*)")
 FIELD = re.compile(r"\s+(?:pub\s+)?([A-Za-z_]\w*)(?:\(.*\)|\s*:.*)?,\s*(?://.*)?$")
@@ -68,7 +69,7 @@ class Names:
             elif path.suffix in (".antt", ".rt"):
                 self.read[path] = declared_in(path)
             else:
-                self.read[path] = set(re.findall(r"[A-Za-z][\w-]*", path.read_text(encoding="utf-8", errors="replace")))
+                self.read[path] = set(NAME.findall(path.read_text(encoding="utf-8", errors="replace")))
         return self.read[path]
 
     def all(self):
@@ -101,8 +102,9 @@ def names(pages):
         return "no page", [f"{CLAIMS}:1: there is no such page"]
     known = Names(page.root).all()
     spoken = [(start, content) for start, _, content in page.spans() if NAME.fullmatch(content)]
-    unknown = [(start, name) for start, name in spoken if name not in known and name not in WORDS]
-    return f"{len(spoken)} names", [f"{page.at(start)}: `{name}`, and nothing under crates/ has that name" for start, name in unknown]
+    faults = [f"{page.at(start)}: `{name}`, and nothing under crates/ has that name"
+              for start, name in spoken if name not in known and name not in WORDS]
+    return f"{len(spoken)} names", faults
 
 
 def calls(pages):
@@ -202,7 +204,8 @@ def is_name(word):
 
 
 def groups_of(definitions, files, above):
-    """The names of a row with the files that they are to be in; and all its files, for a row below that says the same."""
+    """The names of a row with the files that they are to be in; and all its files, for a row below that says the same.
+    """
     named = [list(filter(is_name, spans)) for spans, _ in parts_of(definitions)]
     where = [[*(above if "the same" in part else []), *spans] for spans, part in parts_of(files)]
     every = [file for group in where for file in group]
@@ -218,10 +221,11 @@ def row_faults(known, page, place, definitions, group):
     found = {word: known.paths.found(page, place, word) for word in words}
     paths = [path for there in found.values() for path in there]
     lost = [] if RESTS.search(definitions) else known.missing([name for name in cited if name not in over], paths)
-    empty = [word for word, there in found.items() if cited and not any(known.has(path, name) for path in there for name in cited)]
-    beside_them = "`" + "`, `".join(words) + "`"
-    return ([f"{page.at(place)}: `{name}` beside {beside_them}, and it is not defined there" for name in lost] +
-            [f"{page.at(place)}: `{word}`, and it has none of the names beside it" for word in empty])
+    faults = [f"`{name}` beside `{'`, `'.join(words)}`, and it is not defined there" for name in lost]
+    for word, there in found.items():
+        if cited and not any(known.has(path, name) for path in there for name in cited):
+            faults.append(f"`{word}`, and it has none of the names beside it")
+    return [f"{page.at(place)}: {fault}" for fault in faults]
 
 
 def tables(pages):

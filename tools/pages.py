@@ -1,8 +1,8 @@
 """The pages' links, paths and lists, for tools/verify: that what they lead to and name is there.
 
-A page is README.md, a Markdown file under docs/, or a README.md under examples/. Each check is given the pages and gives
-how many things it looked at, and a line for each fault. Notes in docs/changes tell of a time, and may name what is gone:
-of them the links are checked, and nothing else.
+A page is README.md, a Markdown file under docs/, or a README.md under examples/. Each check is given the pages, and
+gives how many things it looked at and a line for each fault. Notes in docs/changes tell of a time, and may name what
+is gone: of them the links are checked, and nothing else.
 """
 
 import os
@@ -12,11 +12,12 @@ import re
 CODE = re.compile(r"(?:\A|\n[ \t]*(?=\n))(?:\n(?: {4}|\t)[^\n]*|\n[ \t]*(?=\n))+")  # indented, behind a blank line
 FENCE = re.compile(r"^(```|~~~).*?^\1[ \t]*$", re.MULTILINE | re.DOTALL)
 SPAN = re.compile(r"(`+)(?!`)((?:[^`]|(?!\1(?!`))`)+?)\1(?!`)")
-LINK = re.compile(r"\]\(\s*<?([^()<>\s]*(?:\([^()\s]*\)[^()<>\s]*)*)>?(?:\s+\"[^\"]*\")?\s*\)|^\[[^\]]+\]:\s+(\S+)", re.MULTILINE)
+LINK = re.compile(r"\]\(\s*<?([^()<>\s]*)>?(?:\s+\"[^\"]*\")?\s*\)|^\[[^\]]+\]:\s+(\S+)", re.MULTILINE)
 HEADING = re.compile(r"^(#{1,6})[ \t]+(.*?)[ \t]*#*[ \t]*$", re.MULTILINE)
 ELSEWHERE = re.compile(r"[a-z][a-z0-9+.-]*:", re.IGNORECASE)  # http:, https:, mailto:
 PATH = re.compile(r"[\w.*-]+(?:/[\w.*-]+)*/?")
 FILE_NAME = re.compile(r"[\w-]+\.(?:antt|rt|edit|md|py|rs|sv|txt|json|svg|supp|toml|log)")
+COMMAND = re.compile(r"(?<![\w/-])tools/([\w-]+)(?![\w-]|\.\w)")
 IN_A_CRATE = ("specs", "src", "proofs", "must-fail", "stdin", "stdout")
 MADE = "target"  # what is built is there only after a build
 
@@ -98,7 +99,7 @@ def links(pages):
             path, anchor = target
             if not path.exists():
                 faults.append(f"{page.at(place)}: a link to {link}, and there is no such file")
-            elif anchor and path.suffix == ".md" and anchor not in (known.get(path) or Page(page.root, path)).anchors():
+            elif anchor and path in known and anchor not in known[path].anchors():
                 faults.append(f"{page.at(place)}: a link to {link}, and no heading there has that anchor")
     return f"{count} links", faults
 
@@ -115,7 +116,8 @@ def reach(pages):
         if path.is_dir():
             waiting += [other for other in known if other.parent == path]
         elif path in known:
-            waiting += [target[0] for _, link in known[path].links() for target in [target_of(known[path], link)] if target]
+            targets = (target_of(known[path], link) for _, link in known[path].links())
+            waiting += [target[0] for target in targets if target]
     lost = [page for page in pages if page.path not in reached]
     return f"{len(pages)} pages", [f"{page.name}:1: no chain of links leads here from README.md" for page in lost]
 
@@ -182,32 +184,34 @@ def paths(pages):
 
 def listed_crates(root):
     """The crates of crates.txt."""
-    lines = (line.partition("#")[0].partition(":") for line in (root / "crates.txt").read_text(encoding="utf-8").splitlines())
+    text = (root / "crates.txt").read_text(encoding="utf-8")
+    lines = (line.partition("#")[0].partition(":") for line in text.splitlines())
     return [name.strip() for name, colon, _ in lines if colon]
 
 
 def crates(pages):
-    """Each crate of crates.txt stands in the drawing of docs/ARCHITECTURE.md and is described below it, and no other does."""
-    root = pages[0].root
+    """Each crate of crates.txt is in the drawing of docs/ARCHITECTURE.md and described below it; and no other is."""
     page = next((page for page in pages if page.name == "docs/ARCHITECTURE.md"), None)
     if page is None:
         return "no page", ["docs/ARCHITECTURE.md:1: there is no such page"]
     drawing = CODE.search(page.unfenced)
-    drawn = {name for line in (drawing[0] if drawing else "").splitlines() for name in re.split(r" {4,}(?=\S)", line.strip())[0].split()}
+    lines = drawing[0].splitlines() if drawing else []
+    drawn = {name for line in lines for name in re.split(r" {4,}", line.strip())[0].split()}  # what is behind explains
     spoken = {content for _, _, content in page.spans()}
-    names = listed_crates(root)
-    faults = [f"{page.name}:1: crate {name} of crates.txt is not in the drawing" for name in names if name not in drawn]
-    faults += [f"{page.name}:1: crate {name} of crates.txt is not described" for name in names if name not in spoken]
-    faults += [f"{page.name}:1: {name} is in the drawing, and crates.txt has no such crate" for name in sorted(drawn - set(names))]
-    return f"{len(names)} crates", faults
+    names = listed_crates(page.root)
+    faults = [f"crate {name} of crates.txt is not in the drawing" for name in names if name not in drawn]
+    faults += [f"crate {name} of crates.txt is not described" for name in names if name not in spoken]
+    faults += [f"{name} is in the drawing, and crates.txt has no such crate" for name in sorted(drawn - set(names))]
+    return f"{len(names)} crates", [f"{page.name}:1: {fault}" for fault in faults]
 
 
 def commands(pages):
     """Each command in tools/ is named in README.md or in docs/."""
-    tools = sorted(path for path in (pages[0].root / "tools").iterdir() if path.is_file() and os.access(path, os.X_OK))
-    told = [page.text for page in pages if page.told]
-    unnamed = [path.name for path in tools if not any(re.search(rf"tools/{re.escape(path.name)}(?![\w-])", text) for text in told)]
-    return f"{len(tools)} commands", [f"tools/{name}:1: no page names this command" for name in unnamed]
+    files = sorted((pages[0].root / "tools").iterdir())
+    tools = [path.name for path in files if path.is_file() and os.access(str(path), os.X_OK)]
+    told = {word for page in pages if page.told for word in COMMAND.findall(page.text)}
+    faults = [f"tools/{name}:1: no page names this command" for name in tools if name not in told]
+    return f"{len(tools)} commands", faults
 
 
 CHECKS = {"links": links, "reach": reach, "paths": paths, "crates": crates, "commands": commands}
