@@ -8,7 +8,7 @@ from pathlib import Path
 
 from frontend.programs import ROOT
 
-sys.path.append(str(ROOT / "tools"))
+sys.path.insert(0, str(ROOT / "tools"))
 import names  # noqa: E402 (the path is needed first)
 import pages  # noqa: E402
 sys.path.remove(str(ROOT / "tools"))
