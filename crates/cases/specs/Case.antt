@@ -1,10 +1,15 @@
 -- A worked case: the numbers that the rules give, and those that they have to give.
-use mathlib.Core.List.{List, [], _∷_}
+use mathlib.Core.List.{List, [], _∷_, _++_}
 use Prim.Native.Nat.{ℕ}
 
 pub record Case : Type 0 where
   pub given : List ℕ
   pub printed : List ℕ
+
+-- Several lists of cases as one.
+abbrev pub joined : List (List Case) → List Case
+joined [] = []
+joined (cs ∷ rest) = cs ++ joined rest
 
 -- Document 01's words, numbered from 0 in its order, and their fields.
 abbrev pub hit : ℕ → List ℕ

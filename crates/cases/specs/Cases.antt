@@ -2,7 +2,7 @@
 -- I document 02's job 8. Then those of document 02's jobs 4, 1, 2 and 8, and our own cases on lent states: what the rules give, and what was worked out by
 -- hand.
 use mathlib.Core.Bool.{Bool, cond}
-use mathlib.Core.List.{List, [], _∷_, _++_, map}
+use mathlib.Core.List.{List, [], _∷_, map}
 use Prim.Native.Nat.{ℕ, _+_, _*_}
 use lib.ListN.{getD}
 use Rattle.waymap.specs.Bits.{bit, word}
@@ -12,11 +12,18 @@ use Rattle.geometry.specs.declared.Geometry.{Geometry}
 use Rattle.command.specs.Command.{Command}
 use Rattle.steps.specs.Run.{answersOf}
 use Rattle.steps.specs.Fresh.{fresh}
-use Rattle.cases.specs.Case.{Case}
+use Rattle.cases.specs.Case.{Case, joined}
 use Rattle.cases.specs.Orders.{orders}
 use Rattle.cases.specs.Visits.{lookups}
 use Rattle.cases.specs.Lent.{lent}
 use Rattle.cases.specs.Choices.{choices}
+use Rattle.cases.specs.Refusals.{refusals}
+use Rattle.cases.specs.Sharing.{sharing}
+use Rattle.cases.specs.Kinds.{kinds}
+use Rattle.cases.specs.Locked.{lockedLines}
+use Rattle.cases.specs.Nodes.{nodes}
+use Rattle.cases.specs.Trees.{trees}
+use Rattle.cases.specs.Alone.{alone}
 
 -- A bit as a number.
 abbrev flag : Bool → ℕ
@@ -44,9 +51,9 @@ answered W cs i = getD (answersOf (oneSet W) cs (fresh (oneSet W))) i []
 abbrev stepsA : List Command
 stepsA = takes 0 3 ∷ takes 1 12 ∷ does 0 2 0 ∷ does 0 1 64 ∷ does 1 1 0 ∷ does 0 1 128 ∷ []
 
--- The cases, of every replacement word u where document 01 names none. An answer is its word's number and its fields.
-unfoldable pub cases : ℕ → List Case
-cases u =
+-- The documents' own cases, of every replacement word u where document 01 names none. An answer is its word's number and its fields.
+unfoldable pub printedCases : ℕ → List Case
+printedCases u =
     -- A, step 5, by job 8 of document 02: `evict` 1 0 1
     record { given = answered 4 stepsA 5; printed = 2 ∷ 1 ∷ 0 ∷ 1 ∷ [] }
     -- B: "touching way 5 under map 255 sets node 0 to 0, node 2 to 1, node 5 to 0"
@@ -67,5 +74,24 @@ cases u =
     ∷ record { given = nru 8 .victim 6 0 ∷ nru 8 .touch 6 2 (nru 8 .before 6 0) ∷ []; printed = 2 ∷ 2 ∷ [] }
     -- job 4: map 6 has free node 1, and of a word with node 1 set a touch of way 3, outside the map, leaves it; one of way 2 turns it
     ∷ record { given = tree 8 .touch 6 3 2 ∷ tree 8 .touch 6 2 2 ∷ []; printed = 2 ∷ 0 ∷ [] }
-    -- job 1's, job 2's, job 8's, and our own
-    ∷ (orders ++ (lookups ++ (choices ++ lent)))
+    ∷ []
+
+-- All of them: the documents' own, job 1's, job 2's and job 8's, and ours; as lists, and in one list.
+unfoldable pub parts : ℕ → List (List Case)
+parts u =
+    printedCases u
+    ∷ orders
+    ∷ lookups
+    ∷ choices
+    ∷ lent
+    ∷ refusals
+    ∷ sharing
+    ∷ kinds
+    ∷ lockedLines
+    ∷ nodes
+    ∷ trees
+    ∷ alone
+    ∷ []
+
+unfoldable pub cases : ℕ → List Case
+cases u = joined (parts u)

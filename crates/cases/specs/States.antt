@@ -72,7 +72,7 @@ domainNumbers (x ∷ xs) =
     let c = x .counts in
     x .hit ∷ x .fill ∷ c .hits ∷ c .misses ∷ c .evicted ∷ c .written ∷ c .flushed ∷ c .fills ∷ c .dropped ∷ domainNumbers xs
 
-abbrev stateNumbers : State → List ℕ
+abbrev pub stateNumbers : State → List ℕ
 stateNumbers s =
     let t = s .tables in
     t .tags ++ (t .valid ++ (t .dirty ++ (t .words ++ domainNumbers (s .domains .records))))
