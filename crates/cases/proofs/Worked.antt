@@ -1,5 +1,5 @@
--- The worked cases, as one theorem: the rules give what document 01 prints, and what was worked out by hand from it and from document 02. Each list is computed by
--- itself; the theorem joins them.
+-- The worked cases, as one theorem: the rules give what document 01 prints, and what was worked out by hand from it and from document 02. Each list is
+-- computed by itself; the theorem joins them.
 use mathlib.Core.Path.{_≡_, refl, sym, ap, _∙_}
 use mathlib.Core.List.{List, [], _∷_, _++_, map, map-append}
 use Prim.Native.Nat.{ℕ}
@@ -85,32 +85,36 @@ alone-hold = refl
 
 -- ---- joined
 
-abbrev AllHold : List (List Case) → Type 0
-AllHold [] = Unit
-AllHold (cs ∷ rest) = Hold cs × AllHold rest
+-- A list of which it is shown.
+record Shown : Type 0 where
+  these : List Case
+  hold : Hold these
 
-all-hold : (lists : List (List Case)) → AllHold lists → Hold (joined lists)
-all-hold [] h = refl
-all-hold (cs ∷ rest) h =
-    map-append (λ (c : Case). c .given) cs (joined rest)
-    ∙ ap (λ (xs : List (List ℕ)). xs ++ givens (joined rest)) (h .0)
-    ∙ ap (λ (xs : List (List ℕ)). printeds cs ++ xs) (all-hold rest (h .1))
-    ∙ sym (map-append (λ (c : Case). c .printed) cs (joined rest))
+abbrev shown : ℕ → List Shown
+shown u =
+    record { these = printedCases u; hold = printed-hold u }
+    ∷ record { these = orders; hold = orders-hold }
+    ∷ record { these = lookups; hold = lookups-hold }
+    ∷ record { these = choices; hold = choices-hold }
+    ∷ record { these = lent; hold = lent-hold }
+    ∷ record { these = refusals; hold = refusals-hold }
+    ∷ record { these = sharing; hold = sharing-hold }
+    ∷ record { these = kinds; hold = kinds-hold }
+    ∷ record { these = lockedLines; hold = locked-lines-hold }
+    ∷ record { these = nodes; hold = nodes-hold }
+    ∷ record { these = trees; hold = trees-hold }
+    ∷ record { these = alone; hold = alone-hold }
+    ∷ []
+
+all-hold : (xs : List Shown) → Hold (joined (map (λ (x : Shown). x .these) xs))
+all-hold [] = refl
+all-hold (x ∷ xs) =
+    let rest = joined (map (λ (y : Shown). y .these) xs) in
+    map-append (λ (c : Case). c .given) (x .these) rest
+    ∙ ap (λ (ns : List (List ℕ)). ns ++ givens rest) (x .hold)
+    ∙ ap (λ (ns : List (List ℕ)). printeds (x .these) ++ ns) (all-hold xs)
+    ∙ sym (map-append (λ (c : Case). c .printed) (x .these) rest)
 
 pub worked : (u : ℕ) → map (λ (c : Case). c .given) (cases u) ≡ map (λ (c : Case). c .printed) (cases u)
 unfolding parts cases
-worked u =
-    all-hold (parts u)
-    (printed-hold u,
-    (orders-hold,
-    (lookups-hold,
-    (choices-hold,
-    (lent-hold,
-    (refusals-hold,
-    (sharing-hold,
-    (kinds-hold,
-    (locked-lines-hold,
-    (nodes-hold,
-    (trees-hold,
-    (alone-hold,
-    tt))))))))))))
+worked u = all-hold (shown u)

@@ -1,5 +1,6 @@
--- The replacement rules called alone: "Called so, they answer 1 for a W or rule outside the limits, then 5 for a map or touched way reaching W or higher, or for a victim
--- wanted of an empty map; the word is then unchanged" (document 01). Worked out by hand; rules 0, 1 and 2 are Tree-PLRU, NRU and, by document 02's job 1, true LRU.
+-- The replacement rules called alone: "Called so, they answer 1 for a W or rule outside the limits, then 5 for a map or touched way reaching W or higher,
+-- or for a victim wanted of an empty map; the word is then unchanged" (document 01). Worked out by hand; rules 0, 1 and 2 are Tree-PLRU, NRU and, by
+-- document 02's job 1, true LRU.
 use mathlib.Core.List.{List, [], _∷_, _++_}
 use Prim.Native.Nat.{ℕ, _+_, _^_}
 use Rattle.replacement.specs.Calls.{Result, victimOf, touchOf, freshOf, ownOf, sharesOf}
@@ -26,7 +27,8 @@ abbrev outsideFirst : ℕ → ℕ → Case
 outsideFirst W rule = record {
   given = told (victimOf W rule largest 0)
       ++ (told (victimOf W rule largest 65535)
-      ++ (told (touchOf W rule largest 65535 0) ++ (told (touchOf W rule largest 1 200) ++ (told (ownOf W rule largest 65535) ++ sharesOf W rule 65535 65535))));
+      ++ (told (touchOf W rule largest 65535 0)
+      ++ (told (touchOf W rule largest 1 200) ++ (told (ownOf W rule largest 65535) ++ sharesOf W rule 65535 65535))));
   printed = 1 ∷ largest ∷ 1 ∷ largest ∷ 1 ∷ largest ∷ 1 ∷ largest ∷ 1 ∷ largest ∷ 1 ∷ [];
 }
 
@@ -94,7 +96,8 @@ stands =
       given = told (victimOf 16 0 32767 65535) ++ (told (victimOf 16 1 0 0x8001) ++ told (victimOf 16 2 0xfedcba9876543210 65535));
       printed = 0 ∷ 15 ∷ 32767 ∷ 0 ∷ 15 ∷ 0x8001 ∷ 0 ∷ 15 ∷ 0xfedcba9876543210 ∷ [];
     }
-    -- "a word, a map and a touched way give a new word": way 5 under map 255 of ones turns nodes 0 and 5 left; NRU clears bit 5; true LRU brings way 5 to place 0
+    -- "a word, a map and a touched way give a new word": way 5 under map 255 of ones turns nodes 0 and 5 left; NRU clears bit 5; true LRU brings way 5 to
+    -- place 0
     ∷ record {
       given = told (touchOf 8 0 127 255 5) ++ (told (touchOf 8 1 255 255 5) ++ told (touchOf 8 2 0x01234567 255 5));
       printed = 0 ∷ 94 ∷ 0 ∷ 223 ∷ 0 ∷ 0x01234675 ∷ [];

@@ -1,6 +1,6 @@
--- Kinds by their numbers: "Kinds 4 to 15 and 17 to 255 are unknown" (document 01), and where a list of core records is lent, "Kinds 32 to 35 are kinds 0 to 3 with a
--- core in place of the domain" and "Kind 40 writes a core's selectors"; "where no list is lent these kinds stay unknown" (document 02, job 5). All on lent
--- states, worked out by hand.
+-- Kinds by their numbers: "Kinds 4 to 15 and 17 to 255 are unknown" (document 01), and where a list of core records is lent, "Kinds 32 to 35 are kinds 0 to
+-- 3 with a core in place of the domain" and "Kind 40 writes a core's selectors"; "where no list is lent these kinds stay unknown" (document 02, job 5). All
+-- on lent states, worked out by hand.
 use mathlib.Core.Bool.{Bool, true, false, cond}
 use mathlib.Core.List.{List, [], _∷_, _++_, map}
 use Prim.Native.Nat.{ℕ, _+_, _^_}
@@ -86,7 +86,8 @@ others = record { given = answers between; printed = turnedDown between } ∷ []
 
 -- ---- The kinds that are known
 
--- "Kinds: 0 instruction fetch, 1 load, 2 store, 3 flush, 16 policy", by domain 0 of this state: each hits way 0, a store marks it dirty, and a flush leaves it invalid.
+-- "Kinds: 0 instruction fetch, 1 load, 2 store, 3 flush, 16 policy", by domain 0 of this state: each hits way 0, a store marks it dirty, and a flush leaves
+-- it invalid.
 abbrev known : List Case
 known =
     after (plru 1 2) (does 0 0 320) lent (hit 0) (row (5 ∷ 6 ∷ []) 3 1 0 (domain 1 1 2 2 3 4 5 6 7 ∷ domain 2 2 1 2 3 4 5 6 7 ∷ []))

@@ -1,5 +1,5 @@
--- Locked lines: "A licensee locks a working set by leaving its ways in the hit map and out of the fill map" (document 02, job 4). On lent states, each worked out by
--- hand: a hit and a flush are found in the hit map, and no replacement bit goes by them.
+-- Locked lines: "A licensee locks a working set by leaving its ways in the hit map and out of the fill map" (document 02, job 4). On lent states, each
+-- worked out by hand: a hit and a flush are found in the hit map, and no replacement bit goes by them.
 use mathlib.Core.List.{List, [], _∷_, _++_}
 use Prim.Native.Nat.{ℕ}
 use lib.ListN.{replicate}

@@ -1,5 +1,6 @@
--- The nodes of a tree for maps of every kind, as words: "A node is free for a fill map if each of its halves holds a way of the map. Another node is forced: right if
--- only its right half holds one, else left." Bit i of a word is node i. The numbers were worked out apart from these definitions, from document 01's sentences.
+-- The nodes of a tree for maps of every kind, as words: "A node is free for a fill map if each of its halves holds a way of the map. Another node is
+-- forced: right if only its right half holds one, else left." Bit i of a word is node i. The numbers were worked out apart from these definitions, from
+-- document 01's sentences.
 use mathlib.Core.List.{List, [], _∷_, _++_}
 use Prim.Native.Nat.{ℕ, _-_, _^_}
 use Rattle.waymap.specs.Bits.{bit, word}
@@ -103,46 +104,36 @@ ofSixteen =
     ∷ of 16 0x0080 0 1042 7 7
     ∷ of 16 0x0100 0 1 8 8
     ∷ of 16 0x8000 0 16453 15 15
-    -- pairs side by side: 7 and 8, 1 and 2, 13 and 14
+    -- pairs side by side: 7 and 8, 13 and 14
     ∷ of 16 0x0180 1 1042 7 8
-    ∷ of 16 0x0006 8 128 1 2
     ∷ of 16 0x6000 64 8197 13 14
-    -- pairs across the halves: 0 and 15, 4 and 11, 1 and 14, 3 and 12
+    -- pairs across the halves: 0 and 15, 4 and 11
     ∷ of 16 0x8001 1 16452 0 15
     ∷ of 16 0x0810 1 4130 4 11
-    ∷ of 16 0x4002 1 196 1 14
-    ∷ of 16 0x1008 1 268 3 12
-    -- quarters
-    ∷ of 16 0x000f 392 0 0 3
+    -- the second quarter, and the last
     ∷ of 16 0x00f0 1552 2 4 7
-    ∷ of 16 0x0f00 6176 1 8 11
     ∷ of 16 0xf000 24640 5 12 15
-    -- halves, and the eight in the middle and at the ends
+    -- halves, and the eight in the middle
     ∷ of 16 0x00ff 1946 0 0 7
     ∷ of 16 0xff00 30820 1 8 15
     ∷ of 16 0x0ff0 7729 2 4 11
-    ∷ of 16 0xf00f 25033 4 0 15
     -- every other way, every other pair, every other quarter
     ∷ of 16 0x5555 127 0 0 14
     ∷ of 16 0xaaaa 127 32640 1 15
-    ∷ of 16 0x3333 10887 0 0 13
     ∷ of 16 0xcccc 21767 120 2 15
     ∷ of 16 0x0f0f 6569 0 0 11
-    ∷ of 16 0xf0f0 26193 6 4 15
     -- one way of each quarter: 3, 6, 9 and 12
     ∷ of 16 0x1248 7 2328 3 12
-    -- all, and all but one: way 15, way 0
+    -- all, and all but way 0
     ∷ of 16 0xffff 32767 0 0 15
-    ∷ of 16 0x7fff 16383 0 0 14
     ∷ of 16 0xfffe 32639 128 1 15
     -- no pattern
     ∷ of 16 0x2c93 4247 9248 0 13
-    ∷ of 16 0xd36c 18775 520 2 15
     ∷ of 16 0x9e05 4205 18432 0 15
     ∷ []
 
--- "Masked form: (word and not mask) or (mask and policy), mask being one at nodes that are not free, policy one at nodes forced right; the tree is then walked by that
--- word's bits alone." Of W ways, a map and a word: mask, policy, the masked word, and the way that is reached by it.
+-- "Masked form: (word and not mask) or (mask and policy), mask being one at nodes that are not free, policy one at nodes forced right; the tree is then
+-- walked by that word's bits alone." Of W ways, a map and a word: mask, policy, the masked word, and the way that is reached by it.
 abbrev masks : ℕ → ℕ → ℕ → ℕ → ℕ → ℕ → ℕ → Case
 masks W m x mask policy masked way = record {
   given = Tree.mask W (bit m) ∷ Tree.policy W (bit m) ∷ Tree.masked W (bit m) x ∷ Tree.maskedVictim W (bit m) x ∷ [];
@@ -156,12 +147,8 @@ maskedForm =
     ∷ masks 8 0x0c 16 111 2 18 3
     -- bits of nodes that are not free have no say: all ones, under map 0xa0
     ∷ masks 8 0xa0 127 123 97 101 7
-    -- bits above the nodes stay: under the whole map, and under one way
-    ∷ masks 8 0xff 18446744073709551615 0 0 18446744073709551615 7
+    -- bits above the nodes stay: of four ways, under map 2
     ∷ masks 4 2 18446744073709551615 7 2 18446744073709551610 1
-    -- sixteen ways
-    ∷ masks 16 0x2c93 23130 28520 9248 13362 7
-    ∷ masks 16 0x0ff0 32767 25038 2 7731 11
     ∷ []
 
 unfoldable pub nodes : List Case

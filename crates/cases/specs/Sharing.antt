@@ -124,8 +124,6 @@ bySixteen =
     still (plru 1 16) (takes 0 0x8080 0x8080) (sixteen 0 (none ∷ with 0x0101 0x0101 ∷ [])) (refused 9)
     -- ways 4 and 6, and ways 5 and 7: node 4
     ∷ still (plru 1 16) (takes 0 0x00a0 0x00a0) (sixteen 0 (none ∷ with 0x0050 0x0050 ∷ [])) (refused 9)
-    -- ways 12 and 14, and ways 13 and 15: node 6
-    ∷ still (plru 1 16) (takes 0 0xa000 0xa000) (sixteen 0 (none ∷ with 0x5000 0x5000 ∷ [])) (refused 9)
     -- ways 4 to 11, and the rest: node 0
     ∷ still (plru 1 16) (takes 0 0xf00f 0xf00f) (sixteen 0 (none ∷ with 0x0ff0 0x0ff0 ∷ [])) (refused 9)
     -- halves stand side by side: of a word of fifteen ones the nodes of the upper half, 2, 5, 6 and 11 to 14, become zero
@@ -133,12 +131,6 @@ bySixteen =
     (sixteen 0x7fff (none ∷ with 0x00ff 0x00ff ∷ []))
     (policy 0 0)
     (sixteen 1947 (with 0xff00 0xff00 ∷ with 0x00ff 0x00ff ∷ []))
-    -- ways 0 and 15 have free node 0: so have ways 1 to 6 with 9 to 14; ways 1 to 6 alone do not, and it stands
-    ∷ still (plru 1 16) (takes 0 0x8001 0x8001) (sixteen 0x7fff (none ∷ with 0x7e7e 0x7e7e ∷ [])) (refused 9)
-    ∷ after (plru 1 16) (takes 0 0x8001 0x8001)
-    (sixteen 0x7fff (none ∷ with 0x007e 0x007e ∷ []))
-    (policy 0 0)
-    (sixteen 0x7ffe (with 0x8001 0x8001 ∷ with 0x007e 0x007e ∷ []))
     ∷ []
 
 unfoldable pub sharing : List Case

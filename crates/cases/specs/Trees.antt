@@ -1,6 +1,6 @@
--- Tree-PLRU beyond the fresh word, at every number of ways: touches of every way, and evictions one after another. "Node i is bit i of the replacement word; 0 points
--- left, 1 right." "Touching way w sets each free node on the path to w so that it points away from w; no other bit moves." The numbers were worked out apart from
--- these definitions, from document 01's sentences.
+-- Tree-PLRU beyond the fresh word, at every number of ways: touches of every way, and evictions one after another. "Node i is bit i of the replacement
+-- word; 0 points left, 1 right." "Touching way w sets each free node on the path to w so that it points away from w; no other bit moves." The numbers were
+-- worked out apart from these definitions, from document 01's sentences.
 use mathlib.Core.List.{List, [], _∷_, _++_, map}
 use Prim.Native.Nat.{ℕ, _-_}
 use Rattle.waymap.specs.Bits.{bit, word}
@@ -29,8 +29,8 @@ eight = four ++ (4 ∷ 5 ∷ 6 ∷ 7 ∷ [])
 abbrev sixteen : List ℕ
 sixteen = eight ++ (8 ∷ 9 ∷ 10 ∷ 11 ∷ 12 ∷ 13 ∷ 14 ∷ 15 ∷ [])
 
--- Every way, under the map of all ways: of a word of zeros, where nodes turn right, and of one of ones, where nodes turn left. Touching way 0 of sixteen turns nodes 0,
--- 1, 3 and 7 right: 1 + 2 + 8 + 128 = 139. Touching way 15 turns nodes 0, 2, 6 and 14 left.
+-- Under the map of all ways: every way of a word of zeros, where nodes turn right, and ways of one of ones, where nodes turn left. Touching way 0 of
+-- sixteen turns nodes 0, 1, 3 and 7 right: 1 + 2 + 8 + 128 = 139. Touching way 15 turns nodes 0, 2, 6 and 14 left.
 abbrev touches : List Case
 touches =
     record { given = touched 2 3 0 (0 ∷ 1 ∷ []) ++ touched 2 3 1 (0 ∷ 1 ∷ []); printed = 1 ∷ 0 ∷ 1 ∷ 0 ∷ [] }
@@ -43,11 +43,11 @@ touches =
       printed = 139 ∷ 11 ∷ 259 ∷ 3 ∷ 529 ∷ 17 ∷ 1025 ∷ 1 ∷ 2084 ∷ 36 ∷ 4100 ∷ 4 ∷ 8256 ∷ 64 ∷ 16384 ∷ 0 ∷ [];
     }
     ∷ record {
-      given = touched 16 0xffff 32767 sixteen;
-      printed = 32767 ∷ 32639 ∷ 32759 ∷ 32503 ∷ 32765 ∷ 32253 ∷ 32749 ∷ 31725 ∷ 32766 ∷ 30718 ∷ 32734 ∷ 28638 ∷ 32762 ∷ 24570 ∷ 32698 ∷ 16314 ∷ [];
+      given = touched 16 0xffff 32767 (0 ∷ 3 ∷ 5 ∷ 6 ∷ 9 ∷ 10 ∷ 12 ∷ 15 ∷ []);
+      printed = 32767 ∷ 32503 ∷ 32253 ∷ 32749 ∷ 30718 ∷ 32734 ∷ 32762 ∷ 16314 ∷ [];
     }
     -- "each free node": every other way of sixteen, with free nodes 0 to 6
-    ∷ record { given = touched 16 0x5555 0 (0 ∷ 2 ∷ 4 ∷ 6 ∷ 8 ∷ 10 ∷ 12 ∷ 14 ∷ []); printed = 11 ∷ 3 ∷ 17 ∷ 1 ∷ 36 ∷ 4 ∷ 64 ∷ 0 ∷ [] }
+    ∷ record { given = touched 16 0x5555 0 (0 ∷ 6 ∷ 10 ∷ 12 ∷ []); printed = 11 ∷ 1 ∷ 4 ∷ 64 ∷ [] }
     -- ways 0, 5, 10 and 15, with free nodes 0, 1 and 2, of zeros and of ones
     ∷ record {
       given = touched 16 0x8421 0 (0 ∷ 5 ∷ 10 ∷ 15 ∷ []) ++ touched 16 0x8421 32767 (0 ∷ 5 ∷ 10 ∷ 15 ∷ []);
@@ -59,11 +59,14 @@ touches =
       printed = 0 ∷ 0 ∷ 0 ∷ 0 ∷ 32767 ∷ 32767 ∷ 32767 ∷ 32767 ∷ 21845 ∷ 21845 ∷ [];
     }
     -- "no other bit moves": of the whole word, bits above the nodes
-    ∷ record { given = tree 16 .touch 0xffff 15 0xffffffffffffffff ∷ tree 8 .touch 0xff 5 0xffffffffffffffff ∷ []; printed = 0xffffffffffffbfba ∷ 0xffffffffffffffde ∷ [] }
+    ∷ record {
+      given = tree 16 .touch 0xffff 15 0xffffffffffffffff ∷ tree 8 .touch 0xff 5 0xffffffffffffffff ∷ [];
+      printed = 0xffffffffffffbfba ∷ 0xffffffffffffffde ∷ [];
+    }
     ∷ []
 
--- "The victim is reached from the root by free nodes' bits and forced directions." The victims of evictions one after another: each word but the first is the one
--- before it after its victim's touch.
+-- "The victim is reached from the root by free nodes' bits and forced directions." The victims of evictions one after another: each word but the first is
+-- the one before it after its victim's touch.
 abbrev runs : List Case
 runs =
     -- eight ways from a fresh word: each way once, and touching way 7 makes the word 0 again
@@ -113,7 +116,8 @@ steps =
     (full 139 (domain 65535 65535 1 2 3 4 5 6 7))
     (evict 8 9 0)
     (row (1 ∷ 2 ∷ 3 ∷ 4 ∷ 5 ∷ 6 ∷ 7 ∷ 8 ∷ 99 ∷ 10 ∷ 11 ∷ 12 ∷ 13 ∷ 14 ∷ 15 ∷ 16 ∷ []) 65535 256 2222 (domain 65535 65535 1 3 4 4 5 7 7 ∷ []))
-    -- the one after goes left at node 0, right at node 1 and left at nodes 4 and 9, to way 4; nodes 0, 4 and 9 turn right, node 1 left: 2222 + 1 - 2 + 16 + 512
+    -- the one after goes left at node 0, right at node 1 and left at nodes 4 and 9, to way 4; nodes 0, 4 and 9 turn right, and node 1 left:
+    -- 2222 + 1 - 2 + 16 + 512
     ∷ after (plru 1 16) (loads 0 (line 98))
     (full 2222 (domain 65535 65535 1 2 3 4 5 6 7))
     (evict 4 5 0)
