@@ -12,6 +12,7 @@ use Rattle.command.specs.Answer.{answerOf}
 use Rattle.command.proofs.Answer.{the-type}
 use Rattle.command.specs.declared.Answer.{Answer}
 use Rattle.command.specs.declared.Answer.the-variants.{Hit, Fill, Evict, Pass, Flush, Absent, Policy, Refused}
+use Rattle.command.specs.Statements.{AnswerInjective}
 
 -- The answer that a word and values tell.
 answerIn : List ℕ → Answer
@@ -40,7 +41,7 @@ answer-again (Policy n d) = refl
 answer-again (Refused n) = refl
 
 -- So a contract that equates words and values settles the whole answer.
-pub answer-injective : (a b : Answer) → answerOf a ≡ answerOf b → a ≡ b
+pub answer-injective : AnswerInjective
 answer-injective a b e = rw (← (answer-again a), ← (answer-again b), e)
 
 -- An answer without fields is its word's number alone.

@@ -4,12 +4,13 @@ use Prim.Native.Nat.{ℕ, _+_, _*_, _/_, _%_, _<_}
 use native.Mathlib.Omega.{arith}
 use Rattle.command.specs.declared.Command.{Command as Given}
 use Rattle.command.specs.Command.{commandIs, Command, commandOf, codeOf, argumentOf}
+use Rattle.command.specs.Statements.{CodeOfCommand, CommandOfCode, CommandInjective}
 
-pub code-of-command : (code argument : ℕ) → codeOf (commandOf code argument) ≡ code
+pub code-of-command : CodeOfCommand
 unfolding codeOf commandOf
 code-of-command code argument = omega arith
 
-pub command-of-code : (c : Command) → c .domain < 256 → commandOf (codeOf c) (argumentOf c) ≡ c
+pub command-of-code : CommandOfCode
 unfolding codeOf commandOf
 command-of-code c h =
     let domain : (c .domain + 256 * c .kind) % 256 ≡ c .domain = omega arith in
@@ -17,5 +18,5 @@ command-of-code c h =
     ap₂ (λ (d k : ℕ). record { domain = d; kind = k; argument = c .argument }) domain kind
 
 -- a contract that equates `commandIs` settles the whole step
-pub command-injective : (p q : Given) → commandIs p ≡ commandIs q → p ≡ q
+pub command-injective : CommandInjective
 command-injective p q e = λ i. record { domain = e i .domain; kind = e i .kind; argument = e i .argument }

@@ -7,6 +7,7 @@ use Rattle.command.specs.Kind.{Kind, access, flush, policy, unknown, kin
 use Rattle.command.specs.declared.Asked.{Asked}
 use Rattle.command.specs.declared.Asked.the-variants.{Line, Policy, Unknown}
 use Rattle.command.specs.declared.LineUse.the-variants.{Load, Store, Flush}
+use Rattle.command.specs.Statements.{KindInjective}
 use Rattle.command.proofs.Asked as AskedType
 
 pub asked-policy : (q : Asked) → tagOf AskedType.the-type q ≡ 1 → policy ≡ kindIs q
@@ -36,5 +37,5 @@ asked-again Policy = refl
 asked-again Unknown = refl
 
 -- So the contract of `kind_of` settles its whole answer.
-pub kind-injective : (p q : Asked) → kindIs p ≡ kindIs q → p ≡ q
+pub kind-injective : KindInjective
 kind-injective p q e = rw (← (asked-again p), ← (asked-again q), e)

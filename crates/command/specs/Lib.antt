@@ -2,3 +2,4 @@
 pub mod Command
 pub mod Kind
 pub mod Answer
+pub mod Statements

@@ -16,7 +16,7 @@ use Rattle.waymap.proofs.BitLaws.{digit-at}
 use Rattle.replacement.specs.Rule.{ruleOf, bit64}
 use Rattle.replacement.specs.Isolates.{SameOwn}
 use Rattle.policy.specs.declared.Maps.{Maps}
-use Rattle.policy.proofs.ReadLaws.{Cut}
+use Rattle.policy.specs.Policy.{Cut}
 use Rattle.domains.specs.Domains.{domainOf, mapsOf, policies}
 use Rattle.geometry.specs.Geometry.{within}
 use Rattle.geometry.specs.declared.Geometry.{Geometry}

@@ -13,7 +13,7 @@ use Rattle.row.specs.Row.{Row, hitWay, access, flush}
 use Rattle.sweep.specs.Clean.{moved, cleaned, dropped, droppedDirty}
 use Rattle.row.specs.View.{SameLine, SameView, SameRead}
 use Rattle.policy.specs.declared.Maps.{Maps}
-use Rattle.policy.proofs.ReadLaws.{Cut}
+use Rattle.policy.specs.Policy.{Cut}
 use Rattle.lookup.proofs.LookupLaws.{hit-own}
 use Rattle.row.proofs.LineLaws.{
   line-trans,

@@ -11,7 +11,7 @@ use Rattle.row.specs.Row.{Row, Effect}
 use Rattle.row.specs.View.{SameView}
 use Rattle.row.proofs.LineLaws.{same-line, access-leaves, access-stays, flush-leaves, flush-word}
 use Rattle.policy.specs.declared.Maps.{Maps}
-use Rattle.policy.proofs.ReadLaws.{Cut}
+use Rattle.policy.specs.Policy.{Cut}
 use Rattle.domains.specs.Domains.{domainOf, policies}
 use Rattle.geometry.specs.Address.{setOf, tagOf}
 use Rattle.geometry.specs.Geometry.{within}

@@ -32,7 +32,7 @@ use Rattle.row.proofs.LineLaws.{
   flush-agrees,
 }
 use Rattle.policy.specs.declared.Maps.{Maps}
-use Rattle.policy.proofs.ReadLaws.{Cut}
+use Rattle.policy.specs.Policy.{Cut}
 use Rattle.command.specs.declared.Answer.the-variants.{Hit}
 use Rattle.locking.specs.Once.{Has, OnceIn}
 use Rattle.locking.specs.Locked.{locked, SameUnlocked}

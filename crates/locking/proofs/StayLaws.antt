@@ -12,9 +12,8 @@ use Rattle.row.specs.Row as Row
 use Rattle.row.specs.Row.{Row, Effect, isHit, hitWay}
 use Rattle.row.specs.View.{SameMatch}
 use Rattle.row.proofs.LineLaws.{same-line, line-match, access-keeps, flush-spares}
-use Rattle.policy.specs.Policy.{asRead, newMaps}
+use Rattle.policy.specs.Policy.{asRead, newMaps, Cut}
 use Rattle.policy.specs.declared.Maps.{Maps}
-use Rattle.policy.proofs.ReadLaws.{Cut}
 use Rattle.sweep.specs.Clean.{moved}
 use Rattle.sweep.proofs.CleanLaws.{clean-leaves}
 use Rattle.command.specs.Answer.{answerOf}

@@ -13,7 +13,7 @@ use Rattle.waymap.proofs.WayLaws.{any-at, any-ext, any-found}
 use Rattle.replacement.specs.Rule.{Rule, ruleOf}
 use Rattle.row.specs.Row.{Row, isHit, hitWay}
 use Rattle.policy.specs.declared.Maps.{Maps}
-use Rattle.policy.proofs.ReadLaws.{Cut}
+use Rattle.policy.specs.Policy.{Cut}
 use Rattle.command.specs.Command.{Command}
 use Rattle.command.specs.Kind.{kindOf}
 use Rattle.command.specs.declared.Answer.the-variants.{Refused}

@@ -95,7 +95,7 @@ module _ {tags : List ℕ} {valid hit tag mine left : ℕ} (l : Left tags valid 
   -- Else the lowest is next.
   module _ {way : ℕ} (some : left ≡ 0 → ⊥) (low : way ≡ lowest 16 (bit left)) where
     next-in : (bit mine way && leb (l .from) way) ≡ true
-    next-in = sym (l .is way) ∙ lowest-in 16 (l .left-lt) some low
+    next-in = sym (l .is way) ∙ lowest-in 16 _ _ (l .left-lt) some low
 
     from-le : l .from ≤ way
     from-le = leb-true (l .from) way (and-right (bit mine way) (leb (l .from) way) next-in)
@@ -113,7 +113,7 @@ module _ {tags : List ℕ} {valid hit tag mine left : ℕ} (l : Left tags valid 
 
     -- and no lower one is
     below : (w : ℕ) → w < way → matches tags valid hit tag w ≡ false
-    below w k = missed w (omega (arith, next-lt)) (lowest-least 16 (l .left-lt) some low w k)
+    below w k = missed w (omega (arith, next-lt)) (lowest-least 16 _ _ (l .left-lt) some low w k)
 
     pub next-way : matches tags valid hit tag way ≡ true → way ≡ hitWay tags valid hit tag
     unfolding hitWay
@@ -122,7 +122,7 @@ module _ {tags : List ℕ} {valid hit tag mine left : ℕ} (l : Left tags valid 
     -- after it, the ways above it are left
     rest-is : (w : ℕ) → bit (bitAnd left (left - 1)) w ≡ (bit mine w && leb (suc way) w)
     rest-is w =
-        rest-bit 16 (l .left-lt) some low w
+        rest-bit 16 _ _ (l .left-lt) some low w
         ∙ cases (leb (suc way) w)
         (λ t. let above : suc way ≤ w = leb-true (suc way) w t in
         rw (ne-eqb way w (λ e. omega arith), and-true (bit left w), t, l .is w, le-leb (l .from) w (omega (arith, from-le))))
@@ -130,7 +130,7 @@ module _ {tags : List ℕ} {valid hit tag mine left : ℕ} (l : Left tags valid 
         rw (t, and-false (bit mine w))
         (cases (eqb way w)
         (λ e. rw (e, and-false (bit left w)))
-        (λ e. rw (lowest-least 16 (l .left-lt) some low w (omega (arith, eqb-false way w e))))))
+        (λ e. rw (lowest-least 16 _ _ (l .left-lt) some low w (omega (arith, eqb-false way w e))))))
 
     pub left-turned : matches tags valid hit tag way ≡ false → Left tags valid hit tag mine (bitAnd left (left - 1))
     left-turned miss = record {
@@ -143,7 +143,7 @@ module _ {tags : List ℕ} {valid hit tag mine left : ℕ} (l : Left tags valid 
     }
 
     pub left-less : count 16 (bit (bitAnd left (left - 1))) < count 16 (bit left)
-    left-less = omega (arith, rest-count 16 (l .left-lt) some low)
+    left-less = omega (arith, rest-count 16 _ _ (l .left-lt) some low)
 
     -- those visited, and those that are left, are all
     visited-left : count 16 (bit mine) ≡ count 16 (λ (w : ℕ). bit mine w && leb w way) + count 16 (bit (bitAnd left (left - 1)))

@@ -10,7 +10,8 @@ use borrow.Author.Tests.{eqb-true, eq-eqb, ne-eqb}
 use Rattle.waymap.specs.Bits.{Bits, digit}
 use Rattle.waymap.proofs.Booleans.{cases}
 use Rattle.lru.specs.Lru.{Order, times, kept, others, joined, before}
-use Rattle.lru.proofs.OrderLaws.{times-head, times-kept, Each, kept-times}
+use Rattle.lru.specs.Statements.{Each, OrderKnown}
+use Rattle.lru.proofs.OrderLaws.{times-head, times-kept, kept-times}
 
 -- whether a way stands in an order
 abbrev pub stands : ℕ → Order → Bool
@@ -163,8 +164,7 @@ same-first u t o q e =
     (λ r. eqb-true u t r)
     (λ r. absurd (true≢false (rw (r, eq-eqb u u refl, eq-eqb t t refl) at e)))
 
-pub order-known : (o q : Order) → ((w : ℕ) → times w o ≡ times w q) → ((w : ℕ) → times w o ≤ 1)
-    → ((v w : ℕ) → before o v w ≡ before q v w) → o ≡ q
+pub order-known : OrderKnown
 unfolding times
 order-known [] [] same once e = refl
 order-known [] (t ∷ q) same once e = absurd (omega (arith, same t, times-head t q))

@@ -20,7 +20,8 @@ use Rattle.lru.specs.Lru.{Order, places, wordOf, times, fresh, order, wr
 use Rattle.lru.specs.Lru.{joined, touched, touch, changes, aged, reset, last, victim, own}
 use Rattle.lru.specs.Inside.{rank, lifted}
 use Rattle.lru.specs.Calls.{ahead, victimOf, touchOf, changeOf, resetOf, ownOf}
-use Rattle.lru.proofs.OrderLaws.{eqb-sym, times-append, Below, below-head, below-tail, below-kept, each-long, fresh-each}
+use Rattle.lru.specs.Statements.{Below, ChangeResets, SameResets}
+use Rattle.lru.proofs.OrderLaws.{eqb-sym, times-append, below-head, below-tail, below-kept, each-long, fresh-each}
 use Rattle.lru.proofs.BeforeLaws.{not-first}
 use Rattle.lru.proofs.LruLaws.{aged-each, touch-outside}
 use Rattle.lru.proofs.FallingLaws.{kept-nothing, kept-wider}
@@ -208,18 +209,19 @@ module _ (W old new : ℕ) (s : takes W old ≡ true) (t : takes W new ≡ true)
   unfolding takes
   change-takes = NumberLaws.takes-both W (bitXor old new) (and-left (isWays W) (not (reaches W old)) s) (reach-below W (bitXor old new) both)
 
-  pub change-resets : (x : ℕ) → resetOf W x (changeOf old new) ≡ reset W (bit old) (bit new) x
-  unfolding resetOf changeOf reset written
-  change-resets x = rw (← (moved-word old new h k), change-takes) (ap (λ (n : ℕ). cond (eqb n (wordOf (order W x))) x n) next)
-    where
-      moves : Bits
-      moves = changes (bit old) (bit new)
+pub change-resets : ChangeResets
+unfolding resetOf changeOf reset written
+change-resets W old new s t h k x =
+    rw (← (moved-word old new h k), change-takes W old new s t h k) (ap (λ (n : ℕ). cond (eqb n (wordOf (order W x))) x n) next)
+  where
+    moves : Bits
+    moves = changes (bit old) (bit new)
 
-      next : ahead (kept (others (bit (bitXor old new))) (order W x)) (wordOf (kept moves (fresh 16))) ≡ wordOf (aged W moves (order W x))
-      next =
-          ap (λ (b : Bits). ahead (kept (others b) (order W x)) (wordOf (kept moves (fresh 16)))) (moved-is old new)
-          ∙ aged-word W x (NumberLaws.takes-sized W old s .most) moves
-          (λ w l. ap (λ (b : Bits). b w) (sym (moved-is old new)) ∙ WordLaws.bit-high W (bitXor old new) w both l)
+    next : ahead (kept (others (bit (bitXor old new))) (order W x)) (wordOf (kept moves (fresh 16))) ≡ wordOf (aged W moves (order W x))
+    next =
+        ap (λ (b : Bits). ahead (kept (others b) (order W x)) (wordOf (kept moves (fresh 16)))) (moved-is old new)
+        ∙ aged-word W x (NumberLaws.takes-sized W old s .most) moves
+        (λ w l. ap (λ (b : Bits). b w) (sym (moved-is old new)) ∙ WordLaws.bit-high W (bitXor old new) w (both W old new s t h k) l)
 
 -- a change that keeps the fill map leaves every word
 kept-all : {p : Bits} (o : Order) → ((w : ℕ) → p w ≡ true) → kept p o ≡ o
@@ -227,7 +229,7 @@ unfolding kept
 kept-all [] e = refl
 kept-all (v ∷ o) e = rw (e v, kept-all o e)
 
-pub same-resets : (W x : ℕ) (m : Bits) → reset W m m x ≡ x
+pub same-resets : SameResets
 unfolding reset changes aged joined written xor
 same-resets W x m = rw (stays, eq-eqb (wordOf (order W x)) (wordOf (order W x)) refl)
   where

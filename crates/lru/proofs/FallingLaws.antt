@@ -84,10 +84,10 @@ fall-turned {map} {left} {out} {way} f some low = record {
   where
     lowest-out : kept (bit left) (fresh 16) ≡ kept (λ (w : ℕ). bit left w && not (eqb way w)) (fresh 16) ++ (way ∷ [])
     lowest-out =
-        lowest-last (bit left) 16 way (lowest-lt 16 (f .left-lt) some low) (lowest-in 16 (f .left-lt) some low) (lowest-least 16 (f .left-lt) some low)
+        lowest-last (bit left) 16 way (lowest-lt 16 (f .left-lt) some low) (lowest-in 16 _ _ (f .left-lt) some low) (lowest-least 16 _ _ (f .left-lt) some low)
 
     rest : kept (bit (bitAnd left (left - 1))) (fresh 16) ≡ kept (λ (w : ℕ). bit left w && not (eqb way w)) (fresh 16)
-    rest = kept-same _ _ 16 (λ w h. rest-bit 16 (f .left-lt) some low w)
+    rest = kept-same _ _ 16 (λ w h. rest-bit 16 _ _ (f .left-lt) some low w)
 
 pub fall-end : {map left out : ℕ} → Falling map left out → left ≡ 0 → out ≡ ahead (kept (bit map) (fresh 16)) 0
 unfolding ahead

@@ -16,7 +16,8 @@ use Rattle.waymap.proofs.Booleans.{cases}
 use Rattle.waymap.proofs.MapLaws.{shifted-one}
 use Rattle.lru.specs.Lru.{Order, places, wordOf, times, kept, others}
 use Rattle.lru.specs.Inside.{rank, lifted}
-use Rattle.lru.proofs.OrderLaws.{eqb-sym, Below, below-head, below-tail}
+use Rattle.lru.specs.Statements.{Below}
+use Rattle.lru.proofs.OrderLaws.{eqb-sym, below-head, below-tail}
 use Rattle.lru.proofs.PlaceLaws.{shifted}
 use Rattle.lru.proofs.BeforeLaws.{not-first}
 use Rattle.lru.proofs.LoopLaws.{four-bits, places-from}

@@ -12,8 +12,9 @@ use Rattle.waymap.proofs.BitLaws.{digit-lt}
 use Rattle.waymap.proofs.WayLaws.{any-found}
 use Rattle.lru.specs.Lru.{Order, wordOf, times, malformed, fresh, order, written}
 use Rattle.lru.specs.Lru.{kept, others, touched, touch, last, victim, changes, aged, reset, before, own}
-use Rattle.lru.proofs.OrderLaws.{times-kept, below-head, below-tail, Below, below-kept}
-use Rattle.lru.proofs.OrderLaws.{below-same, Each, each-below, each-long, fresh-each, joined-each, kept-times}
+use Rattle.lru.specs.Statements.{Below, Each, Agree, OwnKnown, TouchOrder, ResetOrder, VictimIn, TouchedEach, AgedEach}
+use Rattle.lru.proofs.OrderLaws.{times-kept, below-head, below-tail, below-kept}
+use Rattle.lru.proofs.OrderLaws.{below-same, each-below, each-long, fresh-each, joined-each, kept-times}
 use Rattle.lru.proofs.PlaceLaws.{word-lt, word-told, order-each, each-sixteen, word-formed, order-written, written-formed}
 use Rattle.lru.proofs.BeforeLaws.{before-absent, before-alone, before-kept, joined-second, joined-agrees, order-known}
 
@@ -40,7 +41,7 @@ unfolding last
 last-below n d [] h b = h
 last-below n d (v ∷ o) h b = last-below n v o (below-head n v o b) (below-tail n v o b)
 
-pub victim-in : (W : ℕ) (m : Bits) (x : ℕ) → any W m ≡ true → (victim W m x < W) × (m (victim W m x) ≡ true)
+pub victim-in : VictimIn
 unfolding victim
 victim-in W m x e =
     let r = any-found W m e in
@@ -50,10 +51,6 @@ victim-in W m x e =
     )
 
 -- ---- the own part
-
--- two orders agree on the ways of a map
-abbrev Agree : Bits → Order → Order → Type 0
-Agree m o q = (v w : ℕ) → m v ≡ true → m w ≡ true → before o v w ≡ before q v w
 
 module _ (W : ℕ) (m : Bits) (o q : Order) (e : Each W o) (f : Each W q) where
   -- then the map's ways stand in the same order
@@ -78,17 +75,17 @@ module _ (W : ℕ) (m : Bits) (o q : Order) (e : Each W o) (f : Each W q) where
   kept-agrees : kept m o ≡ kept m q → Agree m o q
   kept-agrees same v w s t = sym (before-kept m o v w s t) ∙ ap (λ (c : Order). before c v w) same ∙ before-kept m q v w s t
 
-module _ (W : ℕ) (m : Bits) (x y : ℕ) where
-  pub own-known : Agree m (order W x) (order W y) → kept m (order W x) ≡ kept m (order W y)
-  own-known agree = kept-known W m (order W x) (order W y) (order-each W x) (order-each W y) agree
+pub own-known : OwnKnown
+own-known W m x y agree = kept-known W m (order W x) (order W y) (order-each W x) (order-each W y) agree
 
+module _ (W : ℕ) (m : Bits) (x y : ℕ) where
   pub victim-own : Agree m (order W x) (order W y) → victim W m x ≡ victim W m y
   unfolding victim
-  victim-own agree = ap (λ (o : Order). last 0 o) (own-known agree)
+  victim-own agree = ap (λ (o : Order). last 0 o) (own-known W m x y agree)
 
   pub part-same : Agree m (order W x) (order W y) → own W m x ≡ own W m y
   unfolding own
-  part-same agree = ap wordOf (own-known agree)
+  part-same agree = ap wordOf (own-known W m x y agree)
 
   pub same-part : W ≤ 16 → own W m x ≡ own W m y → Agree m (order W x) (order W y)
   unfolding own
@@ -104,26 +101,26 @@ module _ (W : ℕ) (m : Bits) (x y : ℕ) where
 -- ---- touch and change of fill map
 
 -- the order that is written has each way once
-pub touched-each : (W : ℕ) (m : Bits) (w x : ℕ) → Each W (touched m w (order W x))
+pub touched-each : TouchedEach
 unfolding touched
 touched-each W m w x =
     cases (m w) (λ t. rw t (joined-each W (eqb w) (order W x) (order W x) (order-each W x) (order-each W x))) (λ t. rw t (order-each W x))
 
-pub aged-each : (W : ℕ) (moves : Bits) (x : ℕ) → Each W (aged W moves (order W x))
+pub aged-each : AgedEach
 unfolding aged
 aged-each W moves x = joined-each W (others moves) (order W x) (fresh W) (order-each W x) (fresh-each W)
 
 -- so it is what is read afterwards
+pub touch-order : TouchOrder
+unfolding touch
+touch-order W small m u x = order-written W small x (touched m u (order W x)) (touched-each W m u x)
+
+pub reset-order : ResetOrder
+unfolding reset
+reset-order W small old new x = order-written W small x (aged W (changes old new) (order W x)) (aged-each W (changes old new) x)
+
+-- and a word that was not malformed is not
 module _ (W : ℕ) (small : W ≤ 16) where
-  pub touch-order : (m : Bits) (u x : ℕ) → order W (touch W m u x) ≡ touched m u (order W x)
-  unfolding touch
-  touch-order m u x = order-written W small x (touched m u (order W x)) (touched-each W m u x)
-
-  pub reset-order : (old new : Bits) (x : ℕ) → order W (reset W old new x) ≡ aged W (changes old new) (order W x)
-  unfolding reset
-  reset-order old new x = order-written W small x (aged W (changes old new) (order W x)) (aged-each W (changes old new) x)
-
-  -- and a word that was not malformed is not
   pub touch-formed : (m : Bits) (u x : ℕ) → malformed W x ≡ false → malformed W (touch W m u x) ≡ false
   unfolding touch
   touch-formed m u x = written-formed W small x (touched m u (order W x)) (touched-each W m u x)

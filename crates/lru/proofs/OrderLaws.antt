@@ -10,6 +10,7 @@ use borrow.Author.Tests.{eqb-true, eqb-false, eq-eqb, ne-eqb, lt-ltb, le-ltb, lt
 use Rattle.waymap.specs.Bits.{Bits, digit}
 use Rattle.waymap.proofs.Booleans.{cases}
 use Rattle.lru.specs.Lru.{Order, times, fresh, kept, others, joined}
+use Rattle.lru.specs.Statements.{Below, Each, NoneMissing}
 
 pub eqb-sym : (a b : ℕ) → eqb a b ≡ eqb b a
 eqb-sym a b =
@@ -45,9 +46,6 @@ times-joined p w o q =
     ∙ cases (p w) (λ t. rw t (omega arith)) (λ t. rw t (omega arith))
 
 -- ---- orders of ways below a bound
-
-abbrev pub Below : ℕ → Order → Type 0
-Below n o = (w : ℕ) → n ≤ w → times w o ≡ 0
 
 pub below-head : (n v : ℕ) (o : Order) → Below n (v ∷ o) → v < n
 below-head n v o b = cases (leb n v) (λ t. absurd (omega (arith, times-head v o, b v (leb-true n v t)))) (λ t. leb-false n v t)
@@ -138,9 +136,6 @@ below-same n o q b c e = below-long n o b ∙ total-ext n (λ w h. e w) ∙ sym 
 
 -- ---- each of W ways exactly once
 
-abbrev pub Each : ℕ → Order → Type 0
-Each W o = (w : ℕ) → times w o ≡ digit (ltb w W)
-
 pub each-below : (W : ℕ) (o : Order) → Each W o → Below W o
 each-below W o e w h = e w ∙ rw (le-ltb w W h)
 
@@ -148,7 +143,7 @@ pub each-long : (W : ℕ) (o : Order) → Each W o → length o ≡ W
 each-long W o e = below-long W o (each-below W o e) ∙ total-ext W (λ w h. e w ∙ rw (lt-ltb w W h)) ∙ total-ones W
 
 -- W places that miss none of W ways hold each of them once, and nothing else
-pub none-missing : (W : ℕ) (o : Order) → length o ≡ W → ((w : ℕ) → w < W → 1 ≤ times w o) → Each W o
+pub none-missing : NoneMissing
 unfolding times
 none-missing W o long least w =
     let all : W ≡ total W (λ (v : ℕ). times v o) + length (kept (leb W) o) = sym long ∙ total-rest W o in

@@ -12,7 +12,8 @@ use Rattle.waymap.specs.Bits.{any}
 use Rattle.waymap.proofs.Booleans.{cases, or-none}
 use Rattle.waymap.proofs.WayLaws.{any-none, none-at}
 use Rattle.lru.specs.Lru.{Order, places, wordOf, times, malformed, fresh, order, written}
-use Rattle.lru.proofs.OrderLaws.{Below, below-head, below-tail, Each, each-below, each-long, none-missing, fresh-each}
+use Rattle.lru.specs.Statements.{Below, Each, OrderWord, OrderWritten, WordTold, OrderEach}
+use Rattle.lru.proofs.OrderLaws.{below-head, below-tail, each-below, each-long, none-missing, fresh-each}
 
 -- ---- places
 
@@ -61,7 +62,7 @@ word-places zero x e = sym (sym (div-one x) ∙ e)
 word-places (suc n) x e = rw (word-places n (x / 16) (sym (shifted n x) ∙ e)) (omega arith)
 
 -- orders of as many ways are the same where their words are
-pub word-told : (o q : Order) → Below 16 o → Below 16 q → length o ≡ length q → wordOf o ≡ wordOf q → o ≡ q
+pub word-told : WordTold
 word-told o q b c long e =
     sym (places-word (length q) o b long) ∙ ap (λ (x : ℕ). places (length q) x) e ∙ places-word (length q) q c refl
 
@@ -85,7 +86,7 @@ unfolding malformed
 each-formed W x e high = rw (any-none W {p = λ (w : ℕ). not (eqb (times w (places W x)) 1)} (λ w h. rw (e w, lt-ltb w W h)), high)
 
 -- every word is read as an order of each way once
-pub order-each : (W x : ℕ) → Each W (order W x)
+pub order-each : OrderEach
 unfolding order
 order-each W x = cases (malformed W x) (λ t. rw t (fresh-each W)) (λ t. rw t (places-each W x t))
 
@@ -114,26 +115,25 @@ module _ (W : ℕ) (small : W ≤ 16) where
       each-formed W (wordOf o) (rw (places-word W o (each-sixteen o e) (each-long W o e)) e)
       (word-high W o (each-sixteen o e) (omega (arith, each-long W o e)))
 
-  -- a written order is read as that order
-  pub order-word : (o : Order) → Each W o → order W (wordOf o) ≡ o
-  unfolding order
-  order-word o e =
-      rw (word-formed o e) (places-word W o (each-sixteen o e) (each-long W o e))
-
-  -- also where the word stays because that is how it was read
-  pub order-written : (x : ℕ) (o : Order) → Each W o → order W (written W x o) ≡ o
-  unfolding written
-  order-written x o e =
-      cases (eqb (wordOf o) (wordOf (order W x)))
-      (λ t. let told : o ≡ order W x =
-      word-told o (order W x) (each-sixteen o e) (each-sixteen (order W x) (order-each W x))
-      (each-long W o e ∙ sym (each-long W (order W x) (order-each W x))) (eqb-true (wordOf o) (wordOf (order W x)) t) in
-      let read : order W (wordOf o) ≡ o = order-word o e in
-      rw t cc)
-      (λ t. rw t (order-word o e))
-
   -- a word that is not malformed does not become so
   pub written-formed : (x : ℕ) (o : Order) → Each W o → malformed W x ≡ false → malformed W (written W x o) ≡ false
   unfolding written
   written-formed x o e formed =
       cases (eqb (wordOf o) (wordOf (order W x))) (λ t. rw t formed) (λ t. rw t (word-formed o e))
+
+-- a written order is read as that order
+pub order-word : OrderWord
+unfolding order
+order-word W small o e = rw (word-formed W small o e) (places-word W o (each-sixteen W small o e) (each-long W o e))
+
+-- also where the word stays because that is how it was read
+pub order-written : OrderWritten
+unfolding written
+order-written W small x o e =
+    cases (eqb (wordOf o) (wordOf (order W x)))
+    (λ t. let told : o ≡ order W x =
+    word-told o (order W x) (each-sixteen W small o e) (each-sixteen W small (order W x) (order-each W x))
+    (each-long W o e ∙ sym (each-long W (order W x) (order-each W x))) (eqb-true (wordOf o) (wordOf (order W x)) t) in
+    let read : order W (wordOf o) ≡ o = order-word W small o e in
+    rw t cc)
+    (λ t. rw t (order-word W small o e))

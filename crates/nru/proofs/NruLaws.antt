@@ -10,6 +10,7 @@ use Rattle.waymap.proofs.Booleans.{cases, and-left}
 use Rattle.waymap.proofs.WayLaws.{any-ext, any-found, any-at}
 use Rattle.waymap.proofs.EncoderLaws.{encode-ext, encode-found}
 use Rattle.nru.specs.Nru.{before, victim, touch}
+use Rattle.nru.specs.Statements.{VictimIn}
 
 -- Case I of document 01, for 8 ways, by computing. "NRU, map 6, word 0": by job 8 of document 02 "way 2, bits 1 and 0", those of ways 1 and 2 after its touch.
 pub case-i : (victim 8 (bit 6) (bit 0) ≡ 2) × (word 64 (touch (bit 6) 2 (before 8 (bit 6) (bit 0))) ≡ 2)
@@ -30,7 +31,7 @@ ready W m b e =
     (λ t. let r : (i : ℕ) × (i < W) × (m i ≡ true) = any-found W m e in
     any-at W (λ (w : ℕ). m w && before W m b w) (r .0) (r .1) (rw (t, r .2)))
 
-pub victim-in : (W : ℕ) (m b : Bits) → any W m ≡ true → (victim W m b < W) × (m (victim W m b) ≡ true)
+pub victim-in : VictimIn
 unfolding victim
 victim-in W m b e =
     let r = encode-found W (λ (w : ℕ). m w && before W m b w) (ready W m b e) in
@@ -45,7 +46,7 @@ before-agrees W m i e q = ap₂ (λ (a t : Bool). cond a t (m i || t)) (found-ag
 
 pub victim-agrees : (W : ℕ) (m : Bits) {b c : Bits} → Agree W m b c → victim W m b ≡ victim W m c
 unfolding victim
-victim-agrees W m e = encode-ext W (λ i h. cases (m i) (λ t. rw t (before-agrees W m i e (e i h t))) (λ t. rw t))
+victim-agrees W m e = encode-ext W _ _ (λ i h. cases (m i) (λ t. rw t (before-agrees W m i e (e i h t))) (λ t. rw t))
 
 -- outside the map no bit moves
 pub before-stays : (W : ℕ) (m b : Bits) (i : ℕ) → m i ≡ false → before W m b i ≡ b i

@@ -16,6 +16,7 @@ use Rattle.waymap.proofs.WayLaws.{any-ext, any-bits, any-wider}
 use Rattle.waymap.proofs.EncoderLaws.{encode-ext, encode-wider}
 use Rattle.nru.specs.Nru.{before, victim, touch, changes, reset, fresh, own}
 use Rattle.nru.specs.Calls.{victimOf, touchOf, changeOf, resetOf, freshOf, ownOf}
+use Rattle.nru.specs.Statements.{ChangeResets}
 
 -- ---- the victim
 
@@ -36,7 +37,7 @@ pub some-way : (map x : ℕ) → map < 2 ^ 16 → (bitAnd map (x % 65536) ≡ 0 
     → encode 16 (bit (bitAnd map (x % 65536))) ≡ victim 16 (bit map) (bit x)
 unfolding victim before
 some-way map x h e =
-    encode-ext 16 (λ i k. ones-bit map x i k ∙ rw (ones-any map x h ∙ ap not (ne-eqb (bitAnd map (x % 65536)) 0 e)))
+    encode-ext 16 _ _ (λ i k. ones-bit map x i k ∙ rw (ones-any map x h ∙ ap not (ne-eqb (bitAnd map (x % 65536)) 0 e)))
 
 pub some-word : (map x : ℕ) → map < 2 ^ 16 → x < 2 ^ 64 → (bitAnd map (x % 65536) ≡ 0 → ⊥) → x ≡ word 64 (before 16 (bit map) (bit x))
 unfolding before
@@ -46,7 +47,7 @@ some-word map x h k e = from-bits 64 k (λ i l. rw (ones-any map x h ∙ ap not 
 pub no-way : (map x : ℕ) → map < 2 ^ 16 → bitAnd map (x % 65536) ≡ 0 → encode 16 (bit map) ≡ victim 16 (bit map) (bit x)
 unfolding victim before
 no-way map x h e =
-    encode-ext 16 (λ i k. rw (ones-any map x h ∙ ap (λ (n : ℕ). not (eqb n 0)) e) (sym (absorb (bit map i) (bit x i))))
+    encode-ext 16 _ _ (λ i k. rw (ones-any map x h ∙ ap (λ (n : ℕ). not (eqb n 0)) e) (sym (absorb (bit map i) (bit x i))))
 
 pub no-word : (map x : ℕ) → map < 2 ^ 16 → x < 2 ^ 64 → bitAnd map (x % 65536) ≡ 0 → bitOr x map ≡ word 64 (before 16 (bit map) (bit x))
 unfolding before
@@ -87,7 +88,7 @@ module _ (W map x : ℕ) (small : W ≤ 16) (h : map < 2 ^ W) where
     where
       way-is : victim 16 (bit map) (bit x) ≡ victim W (bit map) (bit x)
       way-is =
-          encode-ext 16 (λ i k. ap (λ (t : Bool). bit map i && t) (before-width i))
+          encode-ext 16 _ _ (λ i k. ap (λ (t : Bool). bit map i && t) (before-width i))
           ∙ encode-wider W 16 (λ (w : ℕ). bit map w && before W (bit map) (bit x) w) small (outside (before W (bit map) (bit x)))
 
 -- ---- touch, change of fill map, fresh
@@ -123,7 +124,7 @@ unfolding resetOf
 reset-word x ways h k = from-bits 64 (or-lt 64 x ways h k) (λ i l. bit-or x ways i ∙ raised (bit ways i) (bit x i))
 
 -- the two calls together are the rule's change of fill map
-pub change-resets : (old new x : ℕ) → old < 2 ^ 16 → new < 2 ^ 16 → resetOf x (changeOf old new) ≡ word 64 (reset (bit old) (bit new) (bit x))
+pub change-resets : ChangeResets
 unfolding resetOf reset changes
 change-resets old new x h k = word-ext 64 (λ i l. ap (λ (t : Bool). cond t true (bit x i)) (moved i))
   where

@@ -1,3 +1,4 @@
 -- NRU: document 01, "The tree and the bits".
 pub mod Nru
 pub mod Calls
+pub mod Statements

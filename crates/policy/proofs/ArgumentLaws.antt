@@ -14,6 +14,7 @@ use Rattle.waymap.proofs.BitLaws.{bit-and, bit-not}
 use Rattle.waymap.proofs.WayLaws.{any-ext, any-bits, any-none, none-at}
 use Rattle.policy.specs.Policy.{asRead, newMaps, badArgument}
 use Rattle.policy.specs.declared.Maps.{Maps}
+use Rattle.policy.specs.Statements.{GoodMaps}
 
 -- ---- number 5
 
@@ -74,7 +75,7 @@ held true false e = e
 held false h e = refl
 
 -- an argument that is not bad says maps that read as they are
-pub good-maps : (W arg : ℕ) → badArgument W arg ≡ false → asRead W (newMaps arg) ≡ newMaps arg
+pub good-maps : GoodMaps
 unfolding asRead badArgument reaches newMaps
 good-maps W arg e = λ i. record { hit = hit-is i; fill = fill-is i }
   where

@@ -11,7 +11,7 @@ use Rattle.waymap.proofs.Booleans.{and-left, and-right}
 use Rattle.waymap.proofs.BitLaws.{bit-and}
 use Rattle.waymap.proofs.WordLaws.{word-lt, bit-word, bit-word-in, from-bits, high-none}
 use Rattle.waymap.proofs.MapLaws.{cut-bit, reach-below}
-use Rattle.policy.specs.Policy.{asRead}
+use Rattle.policy.specs.Policy.{asRead, Cut}
 use Rattle.policy.specs.declared.Maps.{Maps}
 
 -- a map cut to the first ways
@@ -59,10 +59,6 @@ pub fill-within : (W : ℕ) (p : Maps) → reaches W (asRead W p .fill) ≡ fals
 fill-within W p = reach-below W (asRead W p .fill) (fill-below W p)
 
 -- ---- as read, the fill map is part of the hit map, and both are within the ways
-
-pub record Cut (W : ℕ) (p : Maps) : Type 0 where
-  pub part : (w : ℕ) → bit (p .fill) w ≡ true → bit (p .hit) w ≡ true
-  pub within : (w : ℕ) → bit (p .hit) w ≡ true → w < W
 
 pub cut-read : (W : ℕ) (p : Maps) → Cut W (asRead W p)
 unfolding asRead

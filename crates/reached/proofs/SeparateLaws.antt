@@ -13,9 +13,9 @@ use Rattle.waymap.proofs.WayLaws.{any-at, none-at}
 use Rattle.replacement.specs.Rule.{Rule, ruleOf}
 use Rattle.replacement.specs.Isolates.{Isolates, Apart}
 use Rattle.replacement.proofs.RuleLaws.{isolates}
-use Rattle.policy.specs.Policy.{asRead, newMaps}
+use Rattle.policy.specs.Policy.{asRead, newMaps, Cut}
 use Rattle.policy.specs.declared.Maps.{Maps}
-use Rattle.policy.proofs.ReadLaws.{Cut, cut-read}
+use Rattle.policy.proofs.ReadLaws.{cut-read}
 use Rattle.policy.proofs.ArgumentLaws.{good-maps}
 use Rattle.domains.specs.Domains.{domainOf, policies}
 use Rattle.domains.specs.declared.Domains.{Domains}

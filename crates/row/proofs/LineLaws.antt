@@ -21,7 +21,7 @@ use Rattle.row.specs.Row.{Row, Effect, ways, isHit, hitWay, hitAt, vacan
 use Rattle.lookup.specs.Lookup as Lookup
 use Rattle.lookup.proofs.LookupLaws.{hit-own}
 use Rattle.row.proofs.LookLaws as LookLaws
-use Rattle.policy.proofs.ReadLaws.{Cut}
+use Rattle.policy.specs.Policy.{Cut}
 use Rattle.row.specs.View.{SameMatch, SameLine, SameView, SameRead}
 use Rattle.policy.specs.declared.Maps.{Maps}
 use Rattle.command.specs.declared.Answer.the-variants.{Hit, Fill, Evict, Pass, Flush}
@@ -235,7 +235,7 @@ module _ {W : ℕ} {R : Rule} (I : Isolates W R) (few : W ≤ 16) (p : Maps) (c 
     room-same = ap (λ (n : ℕ). any n (vacant r (p .fill))) as-long ∙ any-ext (ways q) (λ w h. vacant-same w)
 
     room-way : encode (ways r) (vacant r (p .fill)) ≡ encode (ways q) (vacant q (p .fill))
-    room-way = ap (λ (n : ℕ). encode n (vacant r (p .fill))) as-long ∙ encode-ext (ways q) (λ w h. vacant-same w)
+    room-way = ap (λ (n : ℕ). encode n (vacant r (p .fill))) as-long ∙ encode-ext (ways q) _ _ (λ w h. vacant-same w)
 
     victim-same : R .victim (p .fill) (r .word) ≡ R .victim (p .fill) (q .word)
     victim-same = I .victim-own (p .fill) (r .word) (q .word) (s .own)

@@ -15,7 +15,7 @@ use Rattle.waymap.proofs.WayLaws.{none-at, count-ext, count-none, count-le, cou
 use Rattle.replacement.specs.Rule.{Rule}
 use Rattle.replacement.specs.Isolates.{Isolates}
 use Rattle.policy.specs.declared.Maps.{Maps}
-use Rattle.policy.proofs.ReadLaws.{Cut}
+use Rattle.policy.specs.Policy.{Cut}
 use Rattle.lookup.proofs.LookupLaws.{hit-lt, hit-own, hit-valid}
 use Rattle.command.specs.declared.Answer.{Answer}
 use Rattle.command.specs.declared.Answer.the-variants.{Hit, Fill, Evict, Pass, Flush, Absent, Policy, Refused}

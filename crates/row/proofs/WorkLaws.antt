@@ -73,7 +73,7 @@ module _ (rule tag : ℕ) (store : Bool) (tags : List ℕ) (l : Lines) where
     -- what the encoder gives of that map
     module _ {way : ℕ} (e : way ≡ encode 16 (bit (bitAnd fill (2 ^ 16 - 1 - l .valid)))) where
       given : way ≡ encode (length tags) (vacant row fill)
-      given = e ∙ encode-ext 16 vacant-bit ∙ encode-wider (length tags) 16 (vacant row fill) few vacant-within
+      given = e ∙ encode-ext 16 _ _ vacant-bit ∙ encode-wider (length tags) 16 (vacant row fill) few vacant-within
 
       room : any (length tags) (vacant row fill) ≡ ltb way (length tags)
       room = any-encode (length tags) (vacant row fill) few ∙ ap (λ (w : ℕ). ltb w (length tags)) (sym given)

@@ -58,20 +58,20 @@ module _ {map : ℕ} {old new : List ℕ} {rest way : ℕ} (l : Wiping map old n
       (λ t. ltb-true way (length new) t)
       (λ t. absurd (false≢true
       (sym (bit-high (length old) map way (l .within) (omega (arith, l .long, ltb-false way (length new) t)))
-      ∙ l .part way (lowest-in 16 (l .rest-lt) some low))))
+      ∙ l .part way (lowest-in 16 _ _ (l .rest-lt) some low))))
 
   pub turned : Wiping map old (set new way 0) (bitAnd rest (rest - 1))
   turned = record {
     long = length-set new way 0 ∙ l .long;
     small = l .small;
     within = l .within;
-    part = λ w e. l .part w (and-left (bit rest w) (not (eqb way w)) (sym (rest-bit 16 (l .rest-lt) some low w) ∙ e));
+    part = λ w e. l .part w (and-left (bit rest w) (not (eqb way w)) (sym (rest-bit 16 _ _ (l .rest-lt) some low w) ∙ e));
     rest-lt = rest-lt 16 (l .rest-lt) some low;
     is = λ w.
-        rw (rest-bit 16 (l .rest-lt) some low w)
+        rw (rest-bit 16 _ _ (l .rest-lt) some low w)
         (cases (eqb way w)
         (λ t. let same : way ≡ w = eqb-true way w t in
-        rw (t, and-false (bit rest w), ← same, l .part way (lowest-in 16 (l .rest-lt) some low)) (getD-set-same new way 0 0 way-lt))
+        rw (t, and-false (bit rest w), ← same, l .part way (lowest-in 16 _ _ (l .rest-lt) some low)) (getD-set-same new way 0 0 way-lt))
         (λ t. rw (t, and-true (bit rest w)) (getD-set-other new way w 0 0 (λ e. eqb-false way w t (sym e)) ∙ l .is w)));
   }
 

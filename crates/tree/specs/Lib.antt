@@ -2,3 +2,4 @@
 pub mod Tree
 pub mod Calls
 pub mod Inside
+pub mod Statements

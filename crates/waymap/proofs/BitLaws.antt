@@ -9,6 +9,7 @@ use lib.Dec.{eqb, leb, ltb, leb·zero, leb·suc-zero, leb·suc-suc, eqb·zero-su
 use lib.Pow.{shr-shr, pow-pos}
 use lib.Bits.{bitAnd, bitOr, bitXor, differ, and-step, or-step, xor-step, and-mask, shifted-even, shifted-half}
 use Rattle.waymap.specs.Bits.{bit, digit}
+use Rattle.waymap.specs.Statements.{BitAnd, BitOr, BitXor, BitNot, BitShr, BitShl, BitMod}
 
 -- ---- a number's lowest bit, and the others as the bits of its half
 
@@ -79,13 +80,13 @@ xor-digits true false = refl
 xor-digits false true = refl
 xor-digits false false = refl
 
-pub bit-and : (a b i : ℕ) → bit (bitAnd a b) i ≡ (bit a i && bit b i)
+pub bit-and : BitAnd
 bit-and = bit-op bitAnd min _&&_ and-step and-digits
 
-pub bit-or : (a b i : ℕ) → bit (bitOr a b) i ≡ (bit a i || bit b i)
+pub bit-or : BitOr
 bit-or = bit-op bitOr max _||_ or-step or-digits
 
-pub bit-xor : (a b i : ℕ) → bit (bitXor a b) i ≡ xor (bit a i) (bit b i)
+pub bit-xor : BitXor
 bit-xor = bit-op bitXor differ xor xor-step xor-digits
 
 -- ---- complement, in n bits
@@ -95,7 +96,7 @@ odd-not zero h = refl
 odd-not (suc zero) h = refl
 odd-not (suc (suc r)) h = absurd (omega arith)
 
-pub bit-not : (n x i : ℕ) → x < 2 ^ n → bit (2 ^ n - 1 - x) i ≡ (ltb i n && not (bit x i))
+pub bit-not : BitNot
 bit-not zero x i h = rw (zero-sub, bit-none, leb·suc-zero)
 bit-not (suc n) x zero h =
     let e : (2 ^ suc n - 1 - x) % 2 ≡ 1 - x % 2 = omega (arith, pow-suc 2 n, pow-pos n) in
@@ -125,17 +126,17 @@ bit-pow (suc w) (suc i) =
 
 -- ---- shifts and remainders
 
-pub bit-shr : (a k i : ℕ) → bit (a / 2 ^ k) i ≡ bit a (k + i)
+pub bit-shr : BitShr
 unfolding bit
 bit-shr a k i = ap (λ (x : ℕ). eqb (x % 2) 1) (shr-shr a k i)
 
-pub bit-shl : (a k i : ℕ) → bit (a * 2 ^ k) i ≡ (leb k i && bit a (i - k))
+pub bit-shl : BitShl
 bit-shl a zero i = rw (mul-one, leb·zero, sub-zero)
 bit-shl a (suc k) zero = bit-zero (a * 2 ^ suc k) ∙ rw (shifted-even, leb·suc-zero)
 bit-shl a (suc k) (suc i) =
     bit-suc (a * 2 ^ suc k) i ∙ ap (λ (x : ℕ). bit x i) (shifted-half a k) ∙ bit-shl a k i
     ∙ ap₂ (λ (t : Bool) (j : ℕ). t && bit a j) (sym (leb·suc-suc k i)) (sym (suc-sub-suc i k))
 
-pub bit-mod : (a k i : ℕ) → bit (a % 2 ^ k) i ≡ (bit a i && ltb i k)
+pub bit-mod : BitMod
 bit-mod a k i =
     ap (λ (x : ℕ). bit x i) (sym (and-mask a k)) ∙ bit-and a (2 ^ k - 1) i ∙ ap (λ (t : Bool). bit a i && t) (bit-ones k i)

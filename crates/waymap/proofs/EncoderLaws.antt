@@ -9,6 +9,7 @@ use lib.Count.{leadingZeros, leading-top}
 use borrow.Author.Tests.{eqb-true, eqb-false, lt-ltb, le-ltb}
 use Rattle.waymap.specs.Bits.{Bits, bit, any, lowest}
 use Rattle.waymap.specs.Encoder.{encode}
+use Rattle.waymap.specs.Statements.{LeadingEncode, EncodeExt, EncodeFound, AnyEncode, EncodeWider, EncodeIs, EncodeEmpty}
 use Rattle.waymap.proofs.Booleans.{cases}
 use Rattle.waymap.proofs.BitLaws.{bit-none}
 use Rattle.waymap.proofs.WordLaws.{bit-high, high-none}
@@ -22,13 +23,13 @@ encoded = (refl, refl, refl, refl)
 
 -- ---- what the crates above go by: none of these laws names an order
 
-pub encode-ext : (n : ℕ) {p q : Bits} → ((i : ℕ) → i < n → p i ≡ q i) → encode n p ≡ encode n q
+pub encode-ext : EncodeExt
 unfolding encode
-encode-ext zero e = refl
-encode-ext (suc n) e = ap₂ (λ (b : Bool) (r : ℕ). cond b n r) (e n (omega arith)) (encode-ext n (λ i h. e i (omega arith)))
+encode-ext zero p q e = refl
+encode-ext (suc n) p q e = ap₂ (λ (b : Bool) (r : ℕ). cond b n r) (e n (omega arith)) (encode-ext n p q (λ i h. e i (omega arith)))
 
 -- where some way passes, one of them is given
-pub encode-found : (n : ℕ) (p : Bits) → any n p ≡ true → (encode n p < n) × (p (encode n p) ≡ true)
+pub encode-found : EncodeFound
 unfolding encode any
 encode-found zero p e = absurd (false≢true e)
 encode-found (suc n) p e =
@@ -47,14 +48,14 @@ encode-none zero p e = refl
 encode-none (suc n) p e = rw (e n (omega arith)) (encode-none n p (λ i h. e i (omega arith)))
 
 -- so one passes if and only if one is given
-pub any-encode : (n : ℕ) (p : Bits) → n ≤ 16 → any n p ≡ ltb (encode n p) n
+pub any-encode : AnyEncode
 any-encode n p small =
     cases (any n p)
     (λ t. t ∙ sym (lt-ltb (encode n p) n (encode-found n p t .0)))
     (λ t. t ∙ sym (le-ltb (encode n p) n (rw (encode-none n p (λ i h. none-at n p i t h)) small)))
 
 -- where none passes from k on, a wider encoder gives the same
-pub encode-wider : (k n : ℕ) (p : Bits) → k ≤ n → ((i : ℕ) → k ≤ i → p i ≡ false) → encode n p ≡ encode k p
+pub encode-wider : EncodeWider
 unfolding encode
 encode-wider k zero p h none = let e : k ≡ 0 = omega arith in rw e
 encode-wider k (suc n) p h none =
@@ -65,7 +66,7 @@ encode-wider k (suc n) p h none =
 
 -- ---- the order: a way that passes with none above it is the one given
 
-pub encode-is : (n : ℕ) (p : Bits) (i : ℕ) → i < n → ((k : ℕ) → i < k → p k ≡ false) → p i ≡ true → encode n p ≡ i
+pub encode-is : EncodeIs
 unfolding encode
 encode-is zero p i h above t = absurd (omega arith)
 encode-is (suc n) p i h above t =
@@ -95,11 +96,11 @@ module _ (n : ℕ) {x : ℕ} (some : x ≡ 0 → ⊥) (h : x < 2 ^ n) where
   pub leading-lt : leadingZeros n x < n
   leading-lt = omega (arith, top .1)
 
-  pub leading-encode : n - 1 - leadingZeros n x ≡ encode n (bit x)
-  leading-encode =
-      let place : n - 1 - leadingZeros n x ≡ top .0 = omega (arith, top .1) in
-      place ∙ sym (encode-is n (bit x) (top .0) (omega (arith, top .1)) above top-set)
+pub leading-encode : LeadingEncode
+leading-encode n x some h =
+    let place : n - 1 - leadingZeros n x ≡ top n some h .0 = omega (arith, top n some h .1) in
+    place ∙ sym (encode-is n (bit x) (top n some h .0) (omega (arith, top n some h .1)) (above n some h) (top-set n some h))
 
 -- an empty map of sixteen ways has no highest, as it has no lowest
-pub encode-empty : {x : ℕ} → x ≡ 0 → lowest 16 (bit x) ≡ encode 16 (bit x)
-encode-empty e = rw e (lowest-none 16 (bit 0) (λ i h. bit-none i) ∙ sym (encode-none 16 (bit 0) (λ i h. bit-none i)))
+pub encode-empty : EncodeEmpty
+encode-empty x e = rw e (lowest-none 16 (bit 0) (λ i h. bit-none i) ∙ sym (encode-none 16 (bit 0) (λ i h. bit-none i)))

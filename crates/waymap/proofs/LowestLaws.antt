@@ -8,6 +8,7 @@ use lib.Dec.{eqb}
 use lib.Bits.{bitAnd, and-le-l}
 use borrow.Author.Tests.{eqb-true, eqb-false, ne-eqb, eq-eqb}
 use Rattle.waymap.specs.Bits.{Bits, bit, digit, any, lowest, count}
+use Rattle.waymap.specs.Statements.{LowestIn, LowestLeast, RestBit, RestCount}
 use Rattle.waymap.proofs.Booleans.{cases}
 use Rattle.waymap.proofs.BitLaws.{bit-zero, bit-suc, digit-bit, bit-and}
 use Rattle.waymap.proofs.WayLaws.{any-bits, lowest-ext, lowest-found, lowest-first, count-ext}
@@ -78,22 +79,23 @@ module _ (n : ℕ) {x way : ℕ} (h : x < 2 ^ n) (some : x ≡ 0 → ⊥) (low :
   has-way : any n (bit x) ≡ true
   has-way = any-bits n x h ∙ ap not (ne-eqb x 0 some)
 
-  -- it is a way of the map, and no lower one is
   pub lowest-lt : way < n
   lowest-lt = rw low (lowest-found n (bit x) has-way .0)
-
-  pub lowest-in : bit x way ≡ true
-  lowest-in = rw low (lowest-found n (bit x) has-way .1)
-
-  pub lowest-least : (i : ℕ) → i < way → bit x i ≡ false
-  lowest-least i k = lowest-first n (bit x) i (rw (sym low) k)
-
-  -- what is left has the other ways, one less
-  pub rest-bit : (i : ℕ) → bit (bitAnd x (x - 1)) i ≡ (bit x i && not (eqb way i))
-  rest-bit i = without-lowest n x i (omega (arith, some)) h ∙ ap (λ (l : ℕ). bit x i && not (eqb l i)) (sym low)
 
   pub rest-lt : bitAnd x (x - 1) < 2 ^ n
   rest-lt = lt-of-le-of-lt (and-le-l x (x - 1)) h
 
-  pub rest-count : count n (bit x) ≡ suc (count n (bit (bitAnd x (x - 1))))
-  rest-count = count-lowest n (bit x) has-way ∙ ap suc (count-ext n (λ i k. sym (without-lowest n x i (omega (arith, some)) h)))
+-- it is a way of the map, and no lower one is
+pub lowest-in : LowestIn
+lowest-in n x way h some low = rw low (lowest-found n (bit x) (has-way n h some low) .1)
+
+pub lowest-least : LowestLeast
+lowest-least n x way h some low i k = lowest-first n (bit x) i (rw (sym low) k)
+
+-- what is left has the other ways, one less
+pub rest-bit : RestBit
+rest-bit n x way h some low i = without-lowest n x i (omega (arith, some)) h ∙ ap (λ (l : ℕ). bit x i && not (eqb l i)) (sym low)
+
+pub rest-count : RestCount
+rest-count n x way h some low =
+    count-lowest n (bit x) (has-way n h some low) ∙ ap suc (count-ext n (λ i k. sym (without-lowest n x i (omega (arith, some)) h)))

@@ -9,6 +9,7 @@ use lib.Count.{trailingZeros, under, ones, ones-step, ones-le}
 use lib.Pow.{pow-pos}
 use borrow.Author.Tests.{eqb-true, eqb-false, eq-eqb, ltb-true, ltb-false, lt-ltb, le-ltb}
 use Rattle.waymap.specs.Bits.{Bits, bit, digit, any, lowest, count}
+use Rattle.waymap.specs.Statements.{TrailingLowest}
 use Rattle.waymap.proofs.Booleans.{cases, or-interchange}
 use Rattle.waymap.proofs.BitLaws.{digit-lt, digit-bit, bit-suc, bit-none}
 use Rattle.waymap.proofs.WordLaws.{bits-equal}
@@ -233,10 +234,10 @@ any-bits n x h =
     (λ t. rw (t, eqb-true x 0 t) (any-none n (λ i k. bit-none i)))
     (λ t. cases (any n (bit x))
     (λ a. rw (a, t))
-    (λ a. absurd (eqb-false x 0 t (bits-equal n h (pow-pos n) (λ i k. none-at n (bit x) i a k ∙ sym (bit-none i))))))
+    (λ a. absurd (eqb-false x 0 t (bits-equal n _ _ h (pow-pos n) (λ i k. none-at n (bit x) i a k ∙ sym (bit-none i))))))
 
 -- the machine's count of trailing zeros is the lowest way, and the width where the map is empty
-pub trailing-lowest : (n x : ℕ) → trailingZeros n x ≡ lowest n (bit x)
+pub trailing-lowest : TrailingLowest
 unfolding trailingZeros lowest
 trailing-lowest zero x = refl
 trailing-lowest (suc n) x =

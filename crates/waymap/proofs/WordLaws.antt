@@ -8,6 +8,7 @@ use lib.Dec.{eqb, ltb, leb·zero, leb·suc-zero, leb·suc-suc}
 use lib.Pow.{pow-mono}
 use borrow.Author.Tests.{lt-ltb, le-ltb, ltb-false}
 use Rattle.waymap.specs.Bits.{Bits, bit, digit, word}
+use Rattle.waymap.specs.Statements.{BitsEqual}
 use Rattle.waymap.proofs.Booleans.{cases}
 use Rattle.waymap.proofs.BitLaws.{digit-lt, digit-odd, digit-bit, bit-zero, bit-suc, bit-none}
 
@@ -55,8 +56,8 @@ pub from-bits : (n : ℕ) {x : ℕ} {f : Bits} → x < 2 ^ n → ((i : ℕ) → 
 from-bits n {x} h e = sym (word-bit n x h) ∙ word-ext n e
 
 -- two words of n bits with equal bits are equal
-pub bits-equal : (n : ℕ) {x y : ℕ} → x < 2 ^ n → y < 2 ^ n → ((i : ℕ) → i < n → bit x i ≡ bit y i) → x ≡ y
-bits-equal n {x} {y} hx hy e = from-bits n hx e ∙ word-bit n y hy
+pub bits-equal : BitsEqual
+bits-equal n x y hx hy e = from-bits n hx e ∙ word-bit n y hy
 
 -- ---- no bit at n or above
 
@@ -64,7 +65,7 @@ pub bit-high : (n x i : ℕ) → x < 2 ^ n → n ≤ i → bit x i ≡ false
 bit-high n x i h k = ap (λ (y : ℕ). bit y i) (sym (word-bit n x h)) ∙ bit-word n (bit x) i ∙ rw (le-ltb i n k)
 
 pub high-none : (k n x : ℕ) → x < 2 ^ k → ((i : ℕ) → n ≤ i → bit x i ≡ false) → x < 2 ^ n
-high-none k n x h e = rw (bits-equal (k + n) below-x below-word same) (word-lt n (bit x))
+high-none k n x h e = rw (bits-equal (k + n) _ _ below-x below-word same) (word-lt n (bit x))
   where
     below-x : x < 2 ^ (k + n)
     below-x = lt-of-lt-of-le h (pow-mono {i = k} {j = k + n} (omega arith))

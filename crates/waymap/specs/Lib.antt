@@ -2,3 +2,4 @@
 pub mod Bits
 pub mod Encoder
 pub mod Ways
+pub mod Statements
