@@ -11,25 +11,26 @@ use Rattle.waymap.specs.Bits.{bit, any, lowest, members}
 use Rattle.waymap.proofs.Booleans.{cases, and-left, and-right}
 use Rattle.waymap.proofs.WayLaws.{any-lowest, none-at, lowest-found, lowest-none, lowest-same}
 use Rattle.waymap.proofs.MemberLaws.{members-ext, members-up-to, members-at}
-use Rattle.lookup.specs.Lookup.{matches, isHit, hitWay, visits, SameVisited, SameFound}
+use Rattle.lookup.specs.Lookup.{matches, isHit, hitWay, visits, SameFound}
+use Rattle.lookup.specs.Statements.{HitBelow, MissAbove, VisitsHit, VisitsMiss, Unread}
 
 -- Of a tag that is valid in ways 1, 2 and 3 the lowest is hit: by computing.
 kept : (isHit (8 ∷ 5 ∷ 5 ∷ 5 ∷ []) 15 15 5 ≡ true) × (hitWay (8 ∷ 5 ∷ 5 ∷ 5 ∷ []) 15 15 5 ≡ 1)
 unfolding isHit hitWay matches any lowest bit
 kept = (refl, refl)
 
+-- it hits where it finds a way
+pub hit-below : HitBelow
+unfolding isHit hitWay
+hit-below tags valid hit tag h =
+    any-lowest (length tags) (matches tags valid hit tag) ∙ lt-ltb (lowest (length tags) (matches tags valid hit tag)) (length tags) h
+
+pub miss-above : MissAbove
+unfolding isHit hitWay
+miss-above tags valid hit tag h =
+    any-lowest (length tags) (matches tags valid hit tag) ∙ le-ltb (lowest (length tags) (matches tags valid hit tag)) (length tags) h
+
 module _ (tags : List ℕ) (valid hit tag : ℕ) where
-  -- it hits where it finds a way
-  pub hit-below : hitWay tags valid hit tag < length tags → isHit tags valid hit tag ≡ true
-  unfolding isHit hitWay
-  hit-below h =
-      any-lowest (length tags) (matches tags valid hit tag) ∙ lt-ltb (lowest (length tags) (matches tags valid hit tag)) (length tags) h
-
-  pub miss-above : length tags ≤ hitWay tags valid hit tag → isHit tags valid hit tag ≡ false
-  unfolding isHit hitWay
-  miss-above h =
-      any-lowest (length tags) (matches tags valid hit tag) ∙ le-ltb (lowest (length tags) (matches tags valid hit tag)) (length tags) h
-
   -- where the way is that it hits, and where it is counted to be where there is none
   pub hit-lt : isHit tags valid hit tag ≡ true → hitWay tags valid hit tag < length tags
   unfolding isHit hitWay
@@ -60,18 +61,19 @@ module _ (tags : List ℕ) (valid hit tag : ℕ) where
       let w = hitWay tags valid hit tag in
       eqb-true (getD tags w 0) tag (and-right (bit hit w && bit valid w) (eqb (getD tags w 0) tag) (hit-matches e))
 
-  -- ---- the ways visited: with a hit, the hit map's ways below it, and then it
+-- ---- the ways visited: with a hit, the hit map's ways below it, and then it
 
-  pub visits-hit : isHit tags valid hit tag ≡ true
-      → visits tags valid hit tag ≡ members (hitWay tags valid hit tag) (bit hit) ++ (hitWay tags valid hit tag ∷ [])
-  unfolding visits
-  visits-hit e = members-up-to (length tags) (hitWay tags valid hit tag) (bit hit) (hit-lt e) (hit-own e)
+pub visits-hit : VisitsHit
+unfolding visits
+visits-hit tags valid hit tag e =
+    members-up-to (length tags) (hitWay tags valid hit tag) (bit hit) (hit-lt tags valid hit tag e) (hit-own tags valid hit tag e)
 
-  -- without one, all of them
-  pub visits-miss : isHit tags valid hit tag ≡ false → visits tags valid hit tag ≡ members (length tags) (bit hit)
-  unfolding visits
-  visits-miss e =
-      members-ext (length tags) (λ w h. rw (le-leb w (hitWay tags valid hit tag) (omega (arith, miss-way e))) (and-true (bit hit w)))
+-- without one, all of them
+pub visits-miss : VisitsMiss
+unfolding visits
+visits-miss tags valid hit tag e =
+    members-ext (length tags)
+    (λ w h. rw (le-leb w (hitWay tags valid hit tag) (omega (arith, miss-way tags valid hit tag e))) (and-true (bit hit w)))
 
 -- Of two sets that match alike up to the way that is hit, a lookup says the same.
 pub found-same : (ts us : List ℕ) (valid other hit tag : ℕ) → length us ≡ length ts
@@ -88,9 +90,9 @@ found-same ts us valid other hit tag long alike = record {
     same = ap (λ (n : ℕ). lowest n (matches us other hit tag)) long ∙ lowest-same (length ts) _ _ alike
 
 -- So it does of two sets that are alike in the ways visited.
-pub unread : {ts us : List ℕ} {valid other hit tag : ℕ} → SameVisited ts us valid other hit tag → SameFound ts us valid other hit tag
+pub unread : Unread
 unfolding matches visits
-unread {ts} {us} {valid} {other} {hit} {tag} s = found-same ts us valid other hit tag (s .as-long) alike
+unread ts us valid other hit tag s = found-same ts us valid other hit tag (s .as-long) alike
   where
     alike : (w : ℕ) → w < length ts → w ≤ hitWay ts valid hit tag → matches us other hit tag w ≡ matches ts valid hit tag w
     alike w k l =

@@ -23,6 +23,7 @@ use Rattle.lru.proofs.CallLaws as LruLaws
 use Rattle.replacement.specs.Rule.{Rule, tree, nru, lru, ruleOf}
 use Rattle.replacement.specs.Calls.{inLimits, victimOf, touchOf, freshOf, ownOf, sharesOf}
 use Rattle.replacement.specs.Change.{changeOf, changeUnder, changeBy}
+use Rattle.replacement.specs.Statements.{ChangeResets}
 
 -- ---- the limits
 
@@ -176,8 +177,7 @@ shares-by-tree W rule m n limits reach z e k =
 
 -- ---- a change of fill map, worked out first and then done, is the rule's
 
-pub change-resets : (W rule x old new : ℕ) → old < 2 ^ 16 → new < 2 ^ 16 → inLimits W rule ≡ true → reaches W old ≡ false → reaches W new ≡ false
-    → changeBy (changeOf W rule old new) x ≡ ruleOf rule W .reset old new x
+pub change-resets : ChangeResets
 unfolding changeOf
 change-resets W rule x old new h k limits first second = rw (limits, first, second) (under rule (ways W rule limits))
   where

@@ -8,6 +8,7 @@ use Rattle.replacement.specs.Calls.{answerOf, Result, result}
 use Rattle.replacement.specs.declared.Outcome.{Outcome}
 use Rattle.replacement.specs.declared.Reply.{Reply}
 use Rattle.replacement.specs.declared.Reply.the-variants.{Way, Done, OutsideLimits, OutOfReach, SharedNode}
+use Rattle.replacement.specs.Statements.{ReplyInjective, ResultInjective}
 
 -- The answer that a number and values tell.
 replyIn : List ℕ → Reply
@@ -24,10 +25,10 @@ reply-again OutOfReach = refl
 reply-again SharedNode = refl
 
 -- So a contract that equates numbers and values settles the whole answer.
-pub reply-injective : (p q : Reply) → answerOf p ≡ answerOf q → p ≡ q
+pub reply-injective : ReplyInjective
 reply-injective p q e = rw (← (reply-again p), ← (reply-again q), e)
 
-pub result-injective : (p q : Outcome) → result p ≡ result q → p ≡ q
+pub result-injective : ResultInjective
 result-injective p q e =
     let same = reply-injective (p .reply) (q .reply) (ap (λ (r : Result). r .answer) e) in
     λ i. record { reply = same i; word = e i .word }

@@ -18,6 +18,7 @@ use Rattle.lru.proofs.LruLaws as LruLaws
 use Rattle.replacement.specs.Rule.{bit64, tree, nru, lru, ruleOf}
 use Rattle.replacement.specs.Isolates.{Isolates, SameOwn}
 use Rattle.replacement.specs.Laws.{Laws}
+use Rattle.replacement.specs.Statements as Statements
 
 -- ---- the view of a 64-bit word
 
@@ -56,7 +57,7 @@ module _ (own : Bits) (x y : ℕ) where
 
 -- ---- Tree-PLRU
 
-pub tree-isolates : (W : ℕ) → W ≤ 64 → Isolates W (tree W)
+pub tree-isolates : Statements.TreeIsolates
 unfolding Tree.touch Tree.changes Tree.reset Tree.own Tree.shares xor
 tree-isolates W bound = record {
   victim-in = λ map x e. TreeLaws.victim-in W (bit map) (bit x) e;
@@ -88,7 +89,7 @@ tree-isolates W bound = record {
 own-agree : (W map x y : ℕ) → W ≤ 64 → SameOwn (nru W) map x y → (w : ℕ) → w < W → bit map w ≡ true → bit x w ≡ bit y w
 own-agree W map x y bound same w h t = view-bit x y w (omega arith) (same w t)
 
-pub nru-isolates : (W : ℕ) → W ≤ 64 → Isolates W (nru W)
+pub nru-isolates : Statements.NruIsolates
 unfolding Nru.touch Nru.changes Nru.reset Nru.own xor
 nru-isolates W bound = record {
   victim-in = λ map x e. NruLaws.victim-in W (bit map) (bit x) e;
@@ -121,7 +122,7 @@ own-pairs : (W map x y : ℕ) → SameOwn (lru W) map x y → (v w : ℕ) → bi
     → Lru.before (Lru.order W x) v w ≡ Lru.before (Lru.order W y) v w
 own-pairs W map x y same v w s t = same (v, w) (cc (s, t))
 
-pub lru-isolates : (W : ℕ) → W ≤ 16 → Isolates W (lru W)
+pub lru-isolates : Statements.LruIsolates
 lru-isolates W bound = record {
   victim-in = λ map x e. LruLaws.victim-in W (bit map) x e;
   victim-own = λ map x y same. LruLaws.victim-own W (bit map) x y (own-pairs W map x y same);
@@ -149,7 +150,7 @@ lru-isolates W bound = record {
 
 -- ---- a touch outside the map, and the width of the word
 
-pub tree-laws : (W : ℕ) → W ≤ 16 → Laws W (tree W)
+pub tree-laws : Statements.TreeLaws
 tree-laws W bound = record {
   isolates = tree-isolates W (omega arith);
   touch-outside = λ map w x h e. TreeLaws.word-outside W map w x h e;
@@ -159,7 +160,7 @@ tree-laws W bound = record {
   reset-fits = λ old new x h. word-lt 64 (Tree.reset W (bit old) (bit new) (bit x));
 }
 
-pub nru-laws : (W : ℕ) → W ≤ 16 → Laws W (nru W)
+pub nru-laws : Statements.NruLaws
 unfolding Nru.touch
 nru-laws W bound = record {
   isolates = nru-isolates W (omega arith);
@@ -170,7 +171,7 @@ nru-laws W bound = record {
   reset-fits = λ old new x h. word-lt 64 (Nru.reset (bit old) (bit new) (bit x));
 }
 
-pub lru-laws : (W : ℕ) → W ≤ 16 → Laws W (lru W)
+pub lru-laws : Statements.LruLaws
 lru-laws W bound = record {
   isolates = lru-isolates W bound;
   touch-outside = λ map w x h e. LruLaws.touch-outside W (bit map) w x e;
@@ -182,10 +183,10 @@ lru-laws W bound = record {
 
 -- ---- every rule
 
-pub laws : (rule W : ℕ) → W ≤ 16 → Laws W (ruleOf rule W)
+pub laws : Statements.RuleLaws
 laws zero W bound = tree-laws W bound
 laws (suc zero) W bound = nru-laws W bound
 laws (suc (suc rule)) W bound = lru-laws W bound
 
-pub isolates : (rule W : ℕ) → W ≤ 16 → Isolates W (ruleOf rule W)
+pub isolates : Statements.RuleIsolates
 isolates rule W bound = laws rule W bound .isolates

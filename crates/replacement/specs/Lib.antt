@@ -4,3 +4,4 @@ pub mod Isolates
 pub mod Laws
 pub mod Calls
 pub mod Change
+pub mod Statements

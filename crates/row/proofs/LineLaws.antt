@@ -23,6 +23,8 @@ use Rattle.lookup.proofs.LookupLaws.{hit-own}
 use Rattle.row.proofs.LookLaws as LookLaws
 use Rattle.policy.specs.Policy.{Cut}
 use Rattle.row.specs.View.{SameMatch, SameLine, SameView, SameRead}
+use Rattle.row.specs.Statements.{AccessLeaves, AccessKeeps, AccessStays, AccessAnswer, AccessAgrees, AccessView}
+use Rattle.row.specs.Statements.{FlushSpares, FlushLeaves, FlushAnswer, FlushAgrees}
 use Rattle.policy.specs.declared.Maps.{Maps}
 use Rattle.command.specs.declared.Answer.the-variants.{Hit, Fill, Evict, Pass, Flush}
 
@@ -154,9 +156,9 @@ module _ {W : ℕ} {R : Rule} (I : Isolates W R) (few : W ≤ 16) (p : Maps) (c 
     apart map w v a b e = false≢true (sym b ∙ ap (bit map) (sym e) ∙ a)
 
     -- an access leaves the lines outside the hit map alone
-    pub access-leaves : (store : Bool) (v : ℕ) → v < W → bit (p .hit) v ≡ false → SameLine (access R p tag store r .row) r v
+    access-leaves-in : (store : Bool) (v : ℕ) → v < W → bit (p .hit) v ≡ false → SameLine (access R p tag store r .row) r v
     unfolding fillAt evictAt
-    access-leaves store v h b =
+    access-leaves-in store v h b =
         access-cases R p tag store r r (λ e f. SameLine (e .row) r v) refl refl refl
         (λ t. hit-other R (p .fill) store (hitWay r (p .hit) tag) r v low (apart (p .hit) (hitWay r (p .hit) tag) v (own-hit t) b))
         (same-line r v)
@@ -169,9 +171,9 @@ module _ {W : ℕ} {R : Rule} (I : Isolates W R) (few : W ≤ 16) (p : Maps) (c 
         low = lt-of-lt-of-le h few
 
     -- outside the fill map it leaves valid bits and tags: there it only hits
-    pub access-keeps : (store : Bool) (v : ℕ) → v < W → bit (p .fill) v ≡ false → SameMatch (access R p tag store r .row) r v
+    access-keeps-in : (store : Bool) (v : ℕ) → v < W → bit (p .fill) v ≡ false → SameMatch (access R p tag store r .row) r v
     unfolding hitAt fillAt evictAt
-    access-keeps store v h b =
+    access-keeps-in store v h b =
         access-cases R p tag store r r (λ e f. SameMatch (e .row) r v) refl refl refl
         (λ t. record { valid = refl; tag = refl })
         (line-match (same-line r v))
@@ -184,9 +186,9 @@ module _ {W : ℕ} {R : Rule} (I : Isolates W R) (few : W ≤ 16) (p : Maps) (c 
         low = lt-of-lt-of-le h few
 
     -- nor does it change the cells that the fill map does not write
-    pub access-stays : (store : Bool) (x : R .Cell) → R .writes (p .fill) x ≡ false → R .view (access R p tag store r .row .word) x ≡ R .view (r .word) x
+    access-stays-in : (store : Bool) (x : R .Cell) → R .writes (p .fill) x ≡ false → R .view (access R p tag store r .row .word) x ≡ R .view (r .word) x
     unfolding hitAt fillAt evictAt filled
-    access-stays store x b =
+    access-stays-in store x b =
         access-cases R p tag store r r (λ e f. R .view (e .row .word) x ≡ R .view (r .word) x) refl refl refl
         (λ t. I .touch-stays (p .fill) (hitWay r (p .hit) tag) (r .word) x b)
         refl
@@ -194,9 +196,9 @@ module _ {W : ℕ} {R : Rule} (I : Isolates W R) (few : W ≤ 16) (p : Maps) (c 
         (λ t u. I .touch-stays (p .fill) (R .victim (p .fill) (r .word)) (R .before (p .fill) (r .word)) x b ∙ I .before-stays (p .fill) (r .word) x b)
 
     -- a flush leaves every line that it does not hit, and so those outside the hit map
-    pub flush-spares : (v : ℕ) → v < W → (isHit r (p .hit) tag ≡ true → hitWay r (p .hit) tag ≡ v → ⊥) → SameLine (flush p tag r .row) r v
+    flush-spares-in : (v : ℕ) → v < W → (isHit r (p .hit) tag ≡ true → hitWay r (p .hit) tag ≡ v → ⊥) → SameLine (flush p tag r .row) r v
     unfolding flush flushAt
-    flush-spares v h n =
+    flush-spares-in v h n =
         cases (isHit r (p .hit) tag)
         (λ t. rw t (record {
           valid = put-other (hitWay r (p .hit) tag) false (r .valid) v (lt-of-lt-of-le h few) (n t);
@@ -205,8 +207,8 @@ module _ {W : ℕ} {R : Rule} (I : Isolates W R) (few : W ≤ 16) (p : Maps) (c 
         }))
         (λ t. rw t (same-line r v))
 
-    pub flush-leaves : (v : ℕ) → v < W → bit (p .hit) v ≡ false → SameLine (flush p tag r .row) r v
-    flush-leaves v h b = flush-spares v h (λ t. apart (p .hit) (hitWay r (p .hit) tag) v (own-hit t) b)
+    flush-leaves-in : (v : ℕ) → v < W → bit (p .hit) v ≡ false → SameLine (flush p tag r .row) r v
+    flush-leaves-in v h b = flush-spares-in v h (λ t. apart (p .hit) (hitWay r (p .hit) tag) v (own-hit t) b)
 
     pub flush-word : flush p tag r .row .word ≡ r .word
     unfolding flush flushAt
@@ -249,9 +251,9 @@ module _ {W : ℕ} {R : Rule} (I : Isolates W R) (few : W ≤ 16) (p : Maps) (c 
         → P (access R p tag store r) (access R p tag store q)
     by-cases store P = access-cases R p tag store r q P hit-same fill-same room-same
 
-    pub access-answer : (store : Bool) → access R p tag store r .answer ≡ access R p tag store q .answer
+    access-answer-in : (store : Bool) → access R p tag store r .answer ≡ access R p tag store q .answer
     unfolding hitAt fillAt evictAt
-    access-answer store =
+    access-answer-in store =
         by-cases store (λ e f. e .answer ≡ f .answer)
         (λ t. ap Hit way-same)
         refl
@@ -260,9 +262,9 @@ module _ {W : ℕ} {R : Rule} (I : Isolates W R) (few : W ≤ 16) (p : Maps) (c 
         let mine = victim-fill r long-r t in
         rw (← victim-same) (ap₂ (λ (x : ℕ) (b : Bool). Evict w x b) (s .matches w (c .part w mine) .tag) (s .marks w mine)))
 
-    pub access-agrees : (store : Bool) (v : ℕ) → v < W → SameLine r q v → SameLine (access R p tag store r .row) (access R p tag store q .row) v
+    access-agrees-in : (store : Bool) (v : ℕ) → v < W → SameLine r q v → SameLine (access R p tag store r .row) (access R p tag store q .row) v
     unfolding fillAt evictAt
-    access-agrees store v h e =
+    access-agrees-in store v h e =
         by-cases store (λ a b. SameLine (a .row) (b .row) v)
         (λ t. rw (← way-same) (hit-agrees R (p .fill) store (hitWay r (p .hit) tag) r q v low e))
         e
@@ -274,10 +276,10 @@ module _ {W : ℕ} {R : Rule} (I : Isolates W R) (few : W ≤ 16) (p : Maps) (c 
         low : v < 16
         low = lt-of-lt-of-le h few
 
-    pub access-view : (store : Bool) (x : R .Cell) → R .view (r .word) x ≡ R .view (q .word) x
+    access-view-in : (store : Bool) (x : R .Cell) → R .view (r .word) x ≡ R .view (q .word) x
         → R .view (access R p tag store r .row .word) x ≡ R .view (access R p tag store q .row .word) x
     unfolding hitAt fillAt evictAt filled
-    access-view store x e =
+    access-view-in store x e =
         by-cases store (λ a b. R .view (a .row .word) x ≡ R .view (b .row .word) x)
         (λ t. rw (← way-same) (I .touch-agrees (p .fill) (hitWay r (p .hit) tag) (r .word) (q .word) x (s .own) e))
         e
@@ -288,16 +290,16 @@ module _ {W : ℕ} {R : Rule} (I : Isolates W R) (few : W ≤ 16) (p : Maps) (c 
         (I .before-agrees (p .fill) (r .word) (q .word) x (s .own) e)))
 
     -- a flush reads the dirty mark of the way that it hits too
-    pub flush-answer : (isHit r (p .hit) tag ≡ true → bit (r .dirty) (hitWay r (p .hit) tag) ≡ bit (q .dirty) (hitWay r (p .hit) tag))
+    flush-answer-in : (isHit r (p .hit) tag ≡ true → bit (r .dirty) (hitWay r (p .hit) tag) ≡ bit (q .dirty) (hitWay r (p .hit) tag))
         → flush p tag r .answer ≡ flush p tag q .answer
     unfolding flush flushAt
-    flush-answer mark =
+    flush-answer-in mark =
         rw (← hit-same, ← way-same)
         (cases (isHit r (p .hit) tag) (λ t. rw t (ap (Flush (hitWay r (p .hit) tag)) (mark t))) (λ t. rw t))
 
-    pub flush-agrees : (v : ℕ) → v < W → SameLine r q v → SameLine (flush p tag r .row) (flush p tag q .row) v
+    flush-agrees-in : (v : ℕ) → v < W → SameLine r q v → SameLine (flush p tag r .row) (flush p tag q .row) v
     unfolding flush flushAt
-    flush-agrees v h e =
+    flush-agrees-in v h e =
         rw (← hit-same, ← way-same)
         (cases (isHit r (p .hit) tag)
         (λ t. rw t (record {
@@ -306,6 +308,38 @@ module _ {W : ℕ} {R : Rule} (I : Isolates W R) (few : W ≤ 16) (p : Maps) (c 
           tag = e .tag;
         }))
         (λ t. rw t e))
+
+-- ---- the same, as stated
+
+pub access-leaves : AccessLeaves
+access-leaves W R = access-leaves-in
+
+pub access-keeps : AccessKeeps
+access-keeps W R = access-keeps-in
+
+pub access-stays : AccessStays
+access-stays W R = access-stays-in
+
+pub access-answer : AccessAnswer
+access-answer W R = access-answer-in
+
+pub access-agrees : AccessAgrees
+access-agrees W R = access-agrees-in
+
+pub access-view : AccessView
+access-view W R = access-view-in
+
+pub flush-spares : FlushSpares
+flush-spares W R = flush-spares-in
+
+pub flush-leaves : FlushLeaves
+flush-leaves W R = flush-leaves-in
+
+pub flush-answer : FlushAnswer
+flush-answer W R = flush-answer-in
+
+pub flush-agrees : FlushAgrees
+flush-agrees W R = flush-agrees-in
 
 -- ---- a row keeps its length
 

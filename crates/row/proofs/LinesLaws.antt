@@ -20,28 +20,8 @@ use Rattle.lookup.proofs.LookupLaws.{hit-lt, hit-own, hit-valid}
 use Rattle.command.specs.declared.Answer.{Answer}
 use Rattle.command.specs.declared.Answer.the-variants.{Hit, Fill, Evict, Pass, Flush, Absent, Policy, Refused}
 use Rattle.row.specs.Row.{Row, ways, linesIn, isHit, hitWay, hitAt, vacant, filled, fillAt, evictAt, access, flushAt, flush}
+use Rattle.row.specs.Statements.{came, went, AccessLines, FlushLines}
 use Rattle.row.proofs.LineLaws.{put-bit, access-cases}
-
--- The lines that an answer of an access or a flush brings into its set, and those that it takes out.
-abbrev pub came : Answer → ℕ
-came (Fill w) = 1
-came (Evict w tag dirty) = 1
-came (Hit w) = 0
-came Pass = 0
-came (Flush w dirty) = 0
-came Absent = 0
-came (Policy dropped dirty) = 0
-came (Refused n) = 0
-
-abbrev pub went : Answer → ℕ
-went (Evict w tag dirty) = 1
-went (Flush w dirty) = 1
-went (Hit w) = 0
-went (Fill w) = 0
-went Pass = 0
-went Absent = 0
-went (Policy dropped dirty) = 0
-went (Refused n) = 0
 
 -- ---- lines in some ways
 
@@ -108,10 +88,10 @@ module _ {W : ℕ} {R : Rule} (I : Isolates W R) (few : W ≤ 16) (p : Maps) (c 
       rw (← e)
       (lines-put (bit (p .hit)) r (filled R (p .fill) tag store w x r) w true (length-set (r .tags) w tag) narrow refl h (c .part w t))
 
-  pub access-lines : (store : Bool) → linesIn (bit (p .hit)) r + came (access R p tag store r .answer)
+  access-lines-in : (store : Bool) → linesIn (bit (p .hit)) r + came (access R p tag store r .answer)
       ≡ linesIn (bit (p .hit)) (access R p tag store r .row) + went (access R p tag store r .answer)
   unfolding hitAt fillAt evictAt vacant linesIn
-  access-lines store =
+  access-lines-in store =
       access-cases R p tag store r r
       (λ e f. linesIn (bit (p .hit)) r + came (e .answer) ≡ linesIn (bit (p .hit)) (e .row) + went (e .answer)) refl refl refl
       (λ t. refl)
@@ -140,12 +120,18 @@ module _ {W : ℕ} {R : Rule} (I : Isolates W R) (few : W ≤ 16) (p : Maps) (c 
       not-false true e = refl
       not-false false e = sym e
 
-  pub flush-lines : linesIn (bit (p .hit)) r + came (flush p tag r .answer) ≡ linesIn (bit (p .hit)) (flush p tag r .row) + went (flush p tag r .answer)
+  flush-lines-in : linesIn (bit (p .hit)) r + came (flush p tag r .answer) ≡ linesIn (bit (p .hit)) (flush p tag r .row) + went (flush p tag r .answer)
   unfolding flush flushAt
-  flush-lines =
+  flush-lines-in =
       cases (isHit r (p .hit) tag)
       (λ t. let w : ℕ = hitWay r (p .hit) tag in
       let gone = lines-put (bit (p .hit)) r (flushAt true w r .row) w false refl narrow refl (hit-lt (r .tags) (r .valid) (p .hit) tag t)
       (hit-own (r .tags) (r .valid) (p .hit) tag t) in
       rw t (omega (arith, rw (hit-valid (r .tags) (r .valid) (p .hit) tag t) at gone)))
       (λ t. rw t)
+
+pub access-lines : AccessLines
+access-lines W R = access-lines-in
+
+pub flush-lines : FlushLines
+flush-lines W R = flush-lines-in

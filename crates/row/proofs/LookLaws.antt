@@ -18,6 +18,7 @@ use Rattle.row.specs.Row.{Row, ways, isHit, hitWay, visited}
 use Rattle.row.specs.Calls.{rowOf, lookupOf, visitedOf}
 use Rattle.row.specs.View.{SameMatch}
 use Rattle.row.specs.declared.Lines.{Lines}
+use Rattle.row.specs.Statements.{LookupUnread, LookupSame}
 
 -- ---- what it answers
 
@@ -38,11 +39,10 @@ module _ (p : Maps) (tag : ℕ) (tags : List ℕ) (l : Lines) (is : isWays (leng
 
 -- No other tag is compared: two rows that have the same valid bits and tags at the ways visited give the same answer and the same count, whatever
 -- else they hold.
-pub lookup-unread : (p : Maps) (tag : ℕ) (r q : Row) → SameVisited (r .tags) (q .tags) (r .valid) (q .valid) (asRead (ways r) p .hit) tag
-    → (lookupOf p tag q ≡ lookupOf p tag r) × (visitedOf p tag q ≡ visitedOf p tag r)
+pub lookup-unread : LookupUnread
 unfolding lookupOf visitedOf Lookup.visited
 lookup-unread p tag r q s =
-    let f = unread s in
+    let f = unread _ _ _ _ _ _ s in
     (rw (s .as-long, f .same-hit, f .same-way), rw (s .as-long, f .same-visits))
 
 -- Nor anything outside the hit map: of two rows that are as long and the same at each of its ways, a lookup says the same.
@@ -67,8 +67,7 @@ module _ (hit tag : ℕ) (r q : Row) (as-long : ways r ≡ ways q) (same : (w : 
   unfolding Lookup.visited
   visited-same = ap length (found .same-visits)
 
-pub lookup-same : (p : Maps) (tag : ℕ) (r q : Row) → ways r ≡ ways q → ((w : ℕ) → bit (asRead (ways r) p .hit) w ≡ true → SameMatch r q w)
-    → (lookupOf p tag r ≡ lookupOf p tag q) × (visitedOf p tag r ≡ visitedOf p tag q)
+pub lookup-same : LookupSame
 unfolding lookupOf visitedOf
 lookup-same p tag r q e same =
     let hit = asRead (ways r) p .hit in (

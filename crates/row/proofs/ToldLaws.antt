@@ -3,8 +3,9 @@ use mathlib.Core.Path.{_≡_, ap}
 use Rattle.command.proofs.AnswerLaws.{answer-injective}
 use Rattle.row.specs.Row.{Effect}
 use Rattle.row.specs.Calls.{Told, told}
+use Rattle.row.specs.Statements.{ToldInjective}
 
-pub told-injective : (e f : Effect) → told e ≡ told f → e ≡ f
+pub told-injective : ToldInjective
 told-injective e f q =
     let same = answer-injective (e .answer) (f .answer) (ap (λ (t : Told). t .answer) q) in
     λ i. record { answer = same i; row = q i .row }

@@ -3,3 +3,4 @@ pub mod Row
 pub mod View
 pub mod Calls
 pub mod Inside
+pub mod Statements

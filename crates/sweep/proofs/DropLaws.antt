@@ -12,6 +12,7 @@ use Rattle.command.specs.declared.Answer.the-variants.{Hit, Fill, Evict, Pass, 
 use Rattle.command.proofs.Answer.{the-type}
 use Rattle.sweep.specs.Drops.{dropsIn, addedTo}
 use Rattle.sweep.specs.declared.Drops.{Drops}
+use Rattle.sweep.specs.Statements.{AddedFits}
 
 not-six : (n : ℕ) → n ≡ 6 → (n ≡ 0) ⊎ ((n ≡ 1) ⊎ ((n ≡ 2) ⊎ ((n ≡ 3) ⊎ ((n ≡ 4) ⊎ ((n ≡ 5) ⊎ (n ≡ 7)))))) → ⊥
 not-six n six (inl e) = omega arith
@@ -33,7 +34,6 @@ no-drops (Policy n d) h = absurd (not-six 6 refl h)
 no-drops (Refused n) h = refl
 
 -- sums that fit are plain sums
-pub added-fits : (d : Drops) (a : Answer) → d .dropped + dropsIn a .dropped < 2 ^ 64 → d .dirty + dropsIn a .dirty < 2 ^ 64
-    → addedTo d a ≡ record { dropped = d .dropped + dropsIn a .dropped; dirty = d .dirty + dropsIn a .dirty }
+pub added-fits : AddedFits
 unfolding addedTo
 added-fits d a h k = λ i. record { dropped = mod-eq-of-lt h i; dirty = mod-eq-of-lt k i }

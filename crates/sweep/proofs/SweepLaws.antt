@@ -24,6 +24,7 @@ use Rattle.command.specs.declared.Answer.the-variants.{Policy}
 use Rattle.row.proofs.RuleLaws.{most-ways}
 use Rattle.sweep.specs.Clean.{moved, without, wiped, dropWays, dropped, droppedDirty, cleaned, clean}
 use Rattle.sweep.specs.Sweep.{sweepOf, drops, sweptLines, sweepBy}
+use Rattle.sweep.specs.Statements.{SweepCleans}
 
 pub without-is : (gone map : ℕ) → gone < 2 ^ 16 → map < 2 ^ 16 → bitAnd map (2 ^ 16 - 1 - gone) ≡ without (bit gone) map
 unfolding without
@@ -113,9 +114,9 @@ module _ (rule : ℕ) (old new : Maps) (r : Row) (limits : inLimits (ways r) rul
       change-resets W rule (r .word) (was .fill) (next .fill) (ReadLaws.fill-small W old) (ReadLaws.fill-small W new) limits
       (ReadLaws.fill-within W old) (ReadLaws.fill-within W new)
 
-  pub sweep-cleans : sweepBy (sweepOf W rule old new) r ≡ clean (ruleOf rule W) was next r
+  cleans : sweepBy (sweepOf W rule old new) r ≡ clean (ruleOf rule W) was next r
   unfolding sweepBy drops sweptLines clean cleaned linesIn dropped droppedDirty
-  sweep-cleans = λ i. record {
+  cleans = λ i. record {
     answer = Policy (counted (bit (r .valid)) i) (both i);
     row = record {
       tags = wiped (gone-is i) (r .tags);
@@ -131,3 +132,6 @@ module _ (rule : ℕ) (old new : Maps) (r : Row) (limits : inLimits (ways r) rul
           ap (λ (g : Bits). count 16 (λ (w : ℕ). g w && bit (r .valid) w && bit (r .dirty) w)) gone-is
           ∙ count-wider W 16 (λ (w : ℕ). moved was next w && bit (r .valid) w && bit (r .dirty) w) (most-ways W rule limits)
           (λ i h. rw (beyond i h))
+
+pub sweep-cleans : SweepCleans
+sweep-cleans = cleans

@@ -3,3 +3,4 @@ pub mod Clean
 pub mod Sweep
 pub mod Drops
 pub mod Number
+pub mod Statements
