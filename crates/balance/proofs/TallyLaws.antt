@@ -27,7 +27,8 @@ use Rattle.steps.specs.Run.{stepOn, answersOf, finally}
 use Rattle.steps.specs.Inside.{Whole, lineWork}
 use Rattle.steps.proofs.StateLaws.{line-domain, line-domain-other, changed-domain, changed-other}
 use Rattle.steps.proofs.DidLaws.{Did, turned-down, used, changed, did}
-use Rattle.steps.proofs.RunLaws.{Kept, inside, worked, worked-long, kept-lasts}
+use Rattle.steps.specs.Statements.{Kept}
+use Rattle.steps.proofs.RunLaws.{inside, worked, worked-long, kept-lasts}
 use Rattle.purge.specs.Purge.{belongs}
 use Rattle.balance.specs.Tally.{told, removes, tallied, tally}
 

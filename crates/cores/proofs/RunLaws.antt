@@ -27,7 +27,8 @@ use Rattle.steps.specs.Tables.{lengths}
 use Rattle.steps.specs.Step.{State}
 use Rattle.steps.specs.Run.{finally}
 use Rattle.steps.proofs.StateLaws.{whole-sized}
-use Rattle.steps.proofs.RunLaws.{Kept, fresh-kept, kept-lasts}
+use Rattle.steps.specs.Statements.{Kept}
+use Rattle.steps.proofs.RunLaws.{fresh-kept, kept-lasts}
 use Rattle.cores.specs.Step.{Lent, Result, answerBy, cacheBy, lentRefusal, coreStep}
 use Rattle.cores.specs.Run.{coreFinally, freshLent}
 

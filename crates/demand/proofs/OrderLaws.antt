@@ -21,7 +21,8 @@ use Rattle.geometry.proofs.GeometryLaws.{limited}
 use Rattle.steps.specs.Tables.{rowAt}
 use Rattle.steps.specs.Run.{finally}
 use Rattle.steps.specs.Fresh.{fresh}
-use Rattle.steps.proofs.WordLaws.{Lasting, words-last}
+use Rattle.steps.specs.Statements.{Lasting}
+use Rattle.steps.proofs.WordLaws.{words-last}
 use Rattle.lru.proofs.PlaceLaws.{shifted, places-long, places-below, word-lt, word-places}
 use Rattle.demand.specs.Order.{freshWord, wayAt, howMany, firstOf, isOrder, placeOf}
 use Rattle.demand.specs.Statements.{BeforeIs, OrdersLast}

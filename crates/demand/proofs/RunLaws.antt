@@ -10,7 +10,8 @@ use Rattle.command.specs.Command.{Command}
 use Rattle.geometry.specs.declared.Geometry.{Geometry}
 use Rattle.steps.specs.Step.{State, step}
 use Rattle.steps.specs.Run.{stepOn, answersOf, finally}
-use Rattle.steps.proofs.AnswerLaws.{PolicyAnswer, changed, turned-down, policy-answer}
+use Rattle.steps.specs.Statements.{PolicyAnswered, changed, turned-down}
+use Rattle.steps.proofs.AnswerLaws.{policy-answer}
 use Rattle.purge.specs.Purge.{keeps, purge}
 use Rattle.isolation.specs.StruckOut as Iso
 use Rattle.demand.specs.Demand.{events, end, struckOut, ownAnswers, Verdict, accepted, refused, verdictOf, verdicts}
@@ -43,7 +44,7 @@ pub verdictIn : ℕ → Verdict
 verdictIn n = cond (eqb n 0) accepted (refused n)
 
 -- of an answer to a policy change the number tells the verdict, since no refusal has number 0
-told : (a : List ℕ) → PolicyAnswer a → verdictOf a ≡ verdictIn (Iso.numberOf a)
+told : (a : List ℕ) → PolicyAnswered a → verdictOf a ≡ verdictIn (Iso.numberOf a)
 unfolding verdictOf verdictIn Iso.numberOf
 told _ (changed n d) = refl
 told _ (turned-down n h) = rw (ne-eqb n 0 h)
@@ -59,7 +60,7 @@ verdicts-are g d (c ∷ cs) s =
     (λ u. rw u
     (ap₂ _∷_
     (told (stepOn g c s .answer)
-    (subst (λ (k : ℕ). PolicyAnswer (step g (c .domain) k (c .argument) s .answer)) (sym (eqb-true (c .kind) 16 t))
+    (subst (λ (k : ℕ). PolicyAnswered (step g (c .domain) k (c .argument) s .answer)) (sym (eqb-true (c .kind) 16 t))
     (policy-answer g (c .domain) (c .argument) s)))
     (verdicts-are g d cs (stepOn g c s .state))))))
     (λ t. rw t (verdicts-are g d cs (stepOn g c s .state)))

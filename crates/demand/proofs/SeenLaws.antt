@@ -22,7 +22,7 @@ use Rattle.geometry.specs.Geometry.{within}
 use Rattle.geometry.specs.declared.Geometry.{Geometry}
 use Rattle.steps.specs.Tables.{Tables, rowAt}
 use Rattle.steps.specs.Step.{State}
-use Rattle.steps.proofs.RunLaws.{Kept}
+use Rattle.steps.specs.Statements.{Kept}
 use Rattle.isolation.specs.StruckOut.{SameTo}
 use Rattle.reached.proofs.SeparateLaws.{policy-cut}
 use Rattle.demand.specs.Free.{digit, isFree}

@@ -6,6 +6,7 @@ use Rattle.geometry.specs.Geometry.{maxSets}
 use Rattle.geometry.specs.Address.{setOf, tagOf, placeOf}
 use Rattle.geometry.specs.Inside.{Limited}
 use Rattle.geometry.specs.declared.Geometry.{Geometry}
+use Rattle.geometry.specs.Statements.{SetBelow, SetMost}
 
 -- by no sets
 pub no-sets : (g : Geometry) (address : ℕ) → g .sets ≡ 0 → record { set = address / 64; tag = 0 } ≡ placeOf g address
@@ -13,10 +14,10 @@ unfolding placeOf setOf tagOf
 no-sets g address e = rw (e, mod-zero (address / 64), div-zero (address / 64))
 
 -- within the limits the set is one of the cache's
-pub set-below : (g : Geometry) (address : ℕ) → Limited g → setOf g address < g .sets
+pub set-below : SetBelow
 unfolding setOf
 set-below g address l = mod-lt (address / 64) (l .some-set)
 
 -- and so below the most that there are: "a set below 4,096"
-pub set-most : (g : Geometry) (address : ℕ) → Limited g → setOf g address < maxSets
+pub set-most : SetMost
 set-most g address l = lt-of-lt-of-le (set-below g address l) (l .most-sets)

@@ -3,3 +3,4 @@ pub mod Geometry
 pub mod Address
 pub mod Inside
 pub mod Named
+pub mod Statements

@@ -27,7 +27,8 @@ use Rattle.steps.specs.Run.{finally}
 use Rattle.steps.specs.Fresh.{fresh}
 use Rattle.steps.specs.Inside.{changeNumber, lineWork}
 use Rattle.steps.proofs.StateLaws.{line-domain, line-domain-other, changed-domain, changed-other}
-use Rattle.steps.proofs.RunLaws.{run-lasts, Kept, fresh-kept, fresh-domain, worked, worked-long, line-kept, change-kept, inside}
+use Rattle.steps.specs.Statements.{Kept}
+use Rattle.steps.proofs.RunLaws.{run-lasts, fresh-kept, fresh-domain, worked, worked-long, line-kept, change-kept, inside}
 use Rattle.locking.specs.Once.{HitsFit}
 
 -- the hits of counts fit 32 bits

@@ -36,7 +36,8 @@ use Rattle.steps.specs.Inside.{lineWork}
 use Rattle.steps.proofs.SetLaws.{row-long}
 use Rattle.steps.proofs.StateLaws.{line-policy, line-row, line-row-other, changed-policy, changed-policy-other, changed-row}
 use Rattle.steps.proofs.DidLaws.{Did, turned-down, used, changed, did}
-use Rattle.steps.proofs.RunLaws.{Kept, worked, worked-long, inside}
+use Rattle.steps.specs.Statements.{Kept}
+use Rattle.steps.proofs.RunLaws.{worked, worked-long, inside}
 use Rattle.reached.proofs.SeparateLaws.{policy-cut}
 use Rattle.locking.specs.Once.{Has, OnceIn, Once, NoLineTwice}
 use Rattle.locking.proofs.RowLaws.{has-hit}

@@ -30,7 +30,8 @@ use Rattle.steps.specs.Step.{State, Outcome, rowEffect, useLine, onSet, changeP
 use Rattle.steps.specs.Run.{stepOn}
 use Rattle.steps.specs.Inside.{Whole, lineWork}
 use Rattle.steps.proofs.SetLaws.{row-long}
-use Rattle.steps.proofs.RunLaws.{Kept, worked, worked-long}
+use Rattle.steps.specs.Statements.{Kept}
+use Rattle.steps.proofs.RunLaws.{worked, worked-long}
 use Rattle.steps.proofs.StateLaws.{line-policy, line-row, line-row-other, changed-policy, changed-policy-other, changed-row}
 use Rattle.steps.proofs.DidLaws.{Did, turned-down, used, changed, did}
 use Rattle.isolation.specs.StruckOut.{numberOf}

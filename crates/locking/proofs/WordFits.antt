@@ -10,7 +10,8 @@ use Rattle.geometry.specs.declared.Geometry.{Geometry}
 use Rattle.geometry.proofs.GeometryLaws.{limited}
 use Rattle.steps.specs.Tables.{rowAt}
 use Rattle.steps.specs.Step.{State}
-use Rattle.steps.proofs.WordLaws.{Lasting, words-last}
+use Rattle.steps.specs.Statements.{Lasting}
+use Rattle.steps.proofs.WordLaws.{words-last}
 use Rattle.locking.specs.Once.{ReachedFits}
 
 module _ (g : Geometry) (limits : within g ≡ true) where

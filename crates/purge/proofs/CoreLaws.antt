@@ -9,6 +9,7 @@ use Rattle.selectors.specs.Selectors.{coreless, Meant, plain, select, refused, 
 use Rattle.selectors.proofs.MeantLaws.{other-meant, coreless-next}
 use Rattle.selectors.specs.declared.Core.{Core}
 use Rattle.purge.specs.Purge.{purge, keepsBy, corePurge}
+use Rattle.purge.specs.Statements.{PurgePlain, PurgeOthers}
 
 module _ (d : ℕ) where
   -- a step that is struck out changes no record
@@ -25,18 +26,6 @@ module _ (d : ℕ) where
   purge-by (select core) xs = refl
   purge-by (refused n) xs = refl
 
-  -- To strike out and to translate commute: selector writes are kept, so that both lists go by the same records.
-  pub purge-plain : (cs : List Command) (cores : List Core) → plainSteps cores (corePurge d cores cs) ≡ purge d (plainSteps cores cs)
-  unfolding plainSteps corePurge recordsAfter purge
-  purge-plain [] cores = refl
-  purge-plain (c ∷ cs) cores =
-      let m = meant cores c in
-      let next = recordsBy m (c .domain) cores in
-      cases (keepsBy d m)
-      (λ t. rw t (ap (plainBy m) (purge-plain cs next) ∙ sym (purge-by m (plainSteps next cs) ∙ rw t)))
-      (λ t. rw t (subst (λ (rs : List Core). plainSteps cores (corePurge d rs cs) ≡ purge d (plainSteps rs cs)) (sym (struck-records m (c .domain) cores t))
-      (purge-plain cs cores) ∙ sym (purge-by m (plainSteps next cs) ∙ rw t)))
-
   pub purge-records : (cs : List Command) (cores : List Core) → recordsFinally cores (corePurge d cores cs) ≡ recordsFinally cores cs
   unfolding recordsFinally corePurge recordsAfter
   purge-records [] cores = refl
@@ -46,10 +35,22 @@ module _ (d : ℕ) where
       (λ t. rw t (purge-records cs (recordsBy m (c .domain) cores)))
       (λ t. rw (t, struck-records m (c .domain) cores t) (purge-records cs cores))
 
-  -- A list of which no step names a core has the struck-out list that it had.
-  pub purge-others : (cs : List Command) (cores : List Core) → coreless cs ≡ true → corePurge d cores cs ≡ purge d cs
-  unfolding corePurge purge keepsBy recordsAfter recordsBy
-  purge-others [] cores none = refl
-  purge-others (c ∷ cs) cores none =
-      let first = coreless-next c cs none in
-      rw (other-meant cores c (first .0), purge-others cs cores (first .1))
+-- To strike out and to translate commute: selector writes are kept, so that both lists go by the same records.
+pub purge-plain : PurgePlain
+unfolding plainSteps corePurge recordsAfter purge
+purge-plain d [] cores = refl
+purge-plain d (c ∷ cs) cores =
+    let m = meant cores c in
+    let next = recordsBy m (c .domain) cores in
+    cases (keepsBy d m)
+    (λ t. rw t (ap (plainBy m) (purge-plain d cs next) ∙ sym (purge-by d m (plainSteps next cs) ∙ rw t)))
+    (λ t. rw t (subst (λ (rs : List Core). plainSteps cores (corePurge d rs cs) ≡ purge d (plainSteps rs cs)) (sym (struck-records d m (c .domain) cores t))
+    (purge-plain d cs cores) ∙ sym (purge-by d m (plainSteps next cs) ∙ rw t)))
+
+-- A list of which no step names a core has the struck-out list that it had.
+pub purge-others : PurgeOthers
+unfolding corePurge purge keepsBy recordsAfter recordsBy
+purge-others d [] cores none = refl
+purge-others d (c ∷ cs) cores none =
+    let first = coreless-next c cs none in
+    rw (other-meant cores c (first .0), purge-others d cs cores (first .1))

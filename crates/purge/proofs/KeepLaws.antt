@@ -8,6 +8,7 @@ use borrow.Author.Tests.{leb-true, leb-false, lt-ltb, le-ltb, ltb-true, ltb-fals
 use Rattle.waymap.proofs.Booleans.{cases}
 use Rattle.command.specs.Command.{Command}
 use Rattle.purge.specs.Purge.{belongs, keeps}
+use Rattle.purge.specs.Statements.{KeepsOwn, KeepsOthers, Struck}
 
 -- what two numbers are like by a test turned round
 high : (n k : ℕ) → k ≤ n → not (ltb n k) ≡ true
@@ -19,32 +20,27 @@ low n k e = ltb-true n k (not-false (ltb n k) e)
 high-again : (n k : ℕ) → not (ltb n k) ≡ true → k ≤ n
 high-again n k e = ltb-false n k (not-true (ltb n k) e)
 
-module _ (d : ℕ) (c : Command) where
-  -- every step of the chosen domain is kept
-  pub keeps-own : c .domain ≡ d → keeps d c ≡ true
-  unfolding keeps
-  keeps-own e = rw (eq-eqb (c .domain) d e)
+-- every step of the chosen domain is kept
+pub keeps-own : KeepsOwn
+unfolding keeps
+keeps-own d c e = rw (eq-eqb (c .domain) d e)
 
-  -- every step that is no access and no flush is kept: policy changes, and unknown kinds
-  pub keeps-others : 4 ≤ c .kind → keeps d c ≡ true
-  unfolding keeps
-  keeps-others h = cases (belongs d c) (λ t. rw t) (λ t. rw t (high (c .kind) _ (omega arith)))
+-- every step that is no access and no flush is kept: policy changes, and unknown kinds
+pub keeps-others : KeepsOthers
+unfolding keeps
+keeps-others d c h = cases (belongs d c) (λ t. rw t) (λ t. rw t (high (c .kind) _ (omega arith)))
 
-  -- what is struck out belongs to another domain, and is an access or a flush
-  pub record Struck : Type 0 where
-    pub other : belongs d c ≡ false
-    pub kind : c .kind < 4
+-- what is struck out belongs to another domain, and is an access or a flush
+pub struck : Struck
+unfolding keeps
+struck d c t =
+    let other : belongs d c ≡ false = cases (belongs d c) (λ u. absurd (true≢false (rw u at t))) (λ u. u) in
+    record { other = other; kind = omega (arith, low (c .kind) _ (rw other at t)) }
 
-  pub struck : keeps d c ≡ false → Struck
-  unfolding keeps
-  struck t =
-      let other : belongs d c ≡ false = cases (belongs d c) (λ u. absurd (true≢false (rw u at t))) (λ u. u) in
-      record { other = other; kind = omega (arith, low (c .kind) _ (rw other at t)) }
-
-  -- what another domain's step is that is kept
-  pub kept-kind : keeps d c ≡ true → belongs d c ≡ false → 4 ≤ c .kind
-  unfolding keeps
-  kept-kind t u = omega (arith, high-again (c .kind) _ (rw u at t))
+-- what another domain's step is that is kept
+pub kept-kind : (d : ℕ) (c : Command) → keeps d c ≡ true → belongs d c ≡ false → 4 ≤ c .kind
+unfolding keeps
+kept-kind d c t u = omega (arith, high-again (c .kind) _ (rw u at t))
 
 -- ---- as the code tests it
 

@@ -2,3 +2,4 @@
 pub mod Purge
 pub mod Calls
 pub mod Inside
+pub mod Statements

@@ -32,7 +32,8 @@ use Rattle.steps.specs.Inside.{lineWork}
 use Rattle.steps.proofs.SetLaws.{row-long}
 use Rattle.steps.proofs.TotalLaws.{total-ext, total-one}
 use Rattle.steps.proofs.StateLaws.{line-domain, line-domain-other, line-policy, line-row, line-row-other}
-use Rattle.steps.proofs.RunLaws.{Kept, inside, worked-long}
+use Rattle.steps.specs.Statements.{Kept}
+use Rattle.steps.proofs.RunLaws.{inside, worked-long}
 use Rattle.reached.specs.Reached.{Separate}
 use Rattle.reached.specs.Balance.{held, Balanced}
 use Rattle.reached.specs.Inside.{Unowned, Empty, FillsFit}

@@ -30,7 +30,7 @@ use Rattle.steps.specs.Inside.{changeNumber}
 use Rattle.steps.proofs.SetLaws.{row-long}
 use Rattle.steps.proofs.TotalLaws.{total-ext, total-sum, total-le}
 use Rattle.steps.proofs.StateLaws.{passed, changed-domain, changed-other, changed-policy, changed-policy-other, changed-row}
-use Rattle.steps.proofs.RunLaws.{Kept}
+use Rattle.steps.specs.Statements.{Kept}
 use Rattle.reached.specs.Reached.{Separate}
 use Rattle.reached.specs.Balance.{held, Balanced}
 use Rattle.reached.specs.Inside.{Unowned, Empty, FillsFit}

@@ -28,7 +28,8 @@ use Rattle.steps.specs.Fresh.{freshTables, fresh}
 use Rattle.steps.specs.Inside.{Whole, changeNumber, lineWork}
 use Rattle.steps.proofs.TotalLaws.{total-le}
 use Rattle.steps.proofs.StateLaws.{line-policy}
-use Rattle.steps.proofs.RunLaws.{run-lasts, Kept, fresh-kept, fresh-domain, line-kept, change-kept, inside, worked, worked-long}
+use Rattle.steps.specs.Statements.{Kept}
+use Rattle.steps.proofs.RunLaws.{run-lasts, fresh-kept, fresh-domain, line-kept, change-kept, inside, worked, worked-long}
 use Rattle.reached.specs.Reached.{Reached, Separate}
 use Rattle.reached.specs.Balance.{held, Balanced}
 use Rattle.reached.specs.Inside.{Empty, FillsFit}

@@ -13,6 +13,7 @@ use Rattle.selectors.specs.Calls.{meaningIs}
 use Rattle.selectors.specs.declared.Core.{Core}
 use Rattle.selectors.specs.declared.Meaning.{Meaning}
 use Rattle.selectors.specs.declared.Meaning.the-variants.{Plain, Select, Refused}
+use Rattle.selectors.specs.Statements.{MeaningInjective}
 
 next : (n k : ℕ) → n ≤ k → (k ≡ n → ⊥) → n + 1 ≤ k
 next n k h other = omega arith
@@ -61,5 +62,5 @@ meaning-again (Plain d k a) = refl
 meaning-again (Select core) = refl
 meaning-again (Refused n) = refl
 
-pub meaning-injective : (p q : Meaning) → meaningIs p ≡ meaningIs q → p ≡ q
+pub meaning-injective : MeaningInjective
 meaning-injective p q e = rw (← (meaning-again p), ← (meaning-again q), e)

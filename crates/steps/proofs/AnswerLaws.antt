@@ -5,9 +5,9 @@ use mathlib.Core.List.{List, [], _∷_}
 use Prim.Native.Nat.{ℕ, _*_, _≤_}
 use native.Mathlib.Nat.{le-trans, le-of-eq, mul-comm}
 use native.Mathlib.Omega.{arith}
-use lib.Dec.{eqb}
+use lib.Dec.{eqb, ltb}
 use lib.ListN.{length, getD, drop, length-take}
-use borrow.Author.Tests.{eqb-false}
+use borrow.Author.Tests.{eqb-true, eqb-false}
 use Rattle.waymap.specs.Bits.{bit, any}
 use Rattle.waymap.proofs.Booleans.{cases}
 use Rattle.waymap.proofs.WayLaws.{count-le}
@@ -30,42 +30,46 @@ use Rattle.geometry.proofs.GeometryLaws.{rows-bound}
 use Rattle.steps.specs.Tables.{Tables, lengths, rowAt, total}
 use Rattle.steps.specs.Step.{State, Outcome, answers, onSet, rowEffect, useLine, droppedBy, changePolicy, dropsOf, stepBy, decided, step}
 use Rattle.steps.specs.Run.{stepOn}
+use Rattle.steps.specs.Statements.{changed, turned-down, PolicyWord, RefusedStays, NoRefusalZero, PolicyAnswer, DropsMost}
 use Rattle.steps.proofs.TotalLaws.{total-le}
 use Rattle.steps.proofs.DropLaws.{row-lines-most}
 
--- ---- no refusal has number 0
+-- ---- no refusal has number 0, and only a policy change answers word 6
 
--- neither an access nor a flush answers word 7
+-- the words of an access and of a flush are below both
 module _ (p : Maps) (tag : ℕ) (r : Row) where
-  access-done : (R : Rule) (store : Bool) → getD (answerOf (Row.access R p tag store r .answer)) 0 0 ≡ 7 → ⊥
+  access-word : (R : Rule) (store : Bool) → getD (answerOf (Row.access R p tag store r .answer)) 0 0 ≤ 5
   unfolding Row.access Row.accessBy Row.hitAt Row.fillAt Row.evictAt
-  access-done R store = by (Row.isHit r (p .hit) tag) (any (length (r .tags)) (bit (p .fill))) (any (length (r .tags)) (Row.vacant r (p .fill)))
+  access-word R store = by (Row.isHit r (p .hit) tag) (any (length (r .tags)) (bit (p .fill))) (any (length (r .tags)) (Row.vacant r (p .fill)))
     where
-      by : (hit some room : Bool) → getD (answerOf (Row.accessBy hit some room R p tag store r .answer)) 0 0 ≡ 7 → ⊥
-      by true some room e = omega (arith, e)
-      by false false room e = omega (arith, e)
-      by false true true e = omega (arith, e)
-      by false true false e = omega (arith, e)
+      by : (hit some room : Bool) → getD (answerOf (Row.accessBy hit some room R p tag store r .answer)) 0 0 ≤ 5
+      by true some room = omega arith
+      by false false room = omega arith
+      by false true true = omega arith
+      by false true false = omega arith
 
-  flush-done : getD (answerOf (Row.flush p tag r .answer)) 0 0 ≡ 7 → ⊥
+  flush-word : getD (answerOf (Row.flush p tag r .answer)) 0 0 ≤ 5
   unfolding Row.flush Row.flushAt
-  flush-done = by (Row.isHit r (p .hit) tag)
+  flush-word = by (Row.isHit r (p .hit) tag)
     where
-      by : (hit : Bool) → getD (answerOf (Row.flushAt hit (Row.hitWay r (p .hit) tag) r .answer)) 0 0 ≡ 7 → ⊥
-      by true e = omega (arith, e)
-      by false e = omega (arith, e)
+      by : (hit : Bool) → getD (answerOf (Row.flushAt hit (Row.hitWay r (p .hit) tag) r .answer)) 0 0 ≤ 5
+      by true = omega arith
+      by false = omega arith
+
+not-low : (n : ℕ) {word : ℕ} → word ≤ 5 → 6 ≤ n → word ≡ n → ⊥
+not-low n h k e = omega arith
 
 -- of the steps that no verdict turns down only unknown kinds answer it, with 4, and they move nothing
 done-by : (y : Kind) (g : Geometry) (d arg : ℕ) (s : State) → getD (stepBy y g d arg s .answer) 0 0 ≡ 7
     → stepBy y g d arg s ≡ answers (Refused 4) s
 unfolding stepBy useLine onSet rowEffect changePolicy
-done-by (access store) g d arg s e = absurd (access-done _ _ _ _ store e)
-done-by flush g d arg s e = absurd (flush-done _ _ _ e)
+done-by (access store) g d arg s e = absurd (not-low 7 (access-word _ _ _ _ store) (omega arith) e)
+done-by flush g d arg s e = absurd (not-low 7 (flush-word _ _ _) (omega arith) e)
 done-by policy g d arg s e = absurd (omega (arith, e))
 done-by unknown g d arg s e = refl
 
 -- a step that answers word 7 leaves the state
-pub refused-stays : (g : Geometry) (d kind arg : ℕ) (s : State) → getD (step g d kind arg s .answer) 0 0 ≡ 7 → step g d kind arg s .state ≡ s
+pub refused-stays : RefusedStays
 unfolding step decided
 refused-stays g d kind arg s e =
     cases (eqb number 0)
@@ -76,7 +80,7 @@ refused-stays g d kind arg s e =
     number =
         refusal g (lengths (s .tables)) (policies (g .ways) (s .domains)) (domainOf (s .domains) d .counts) (dropsOf g d arg s) d kind arg
 
-pub no-refusal-zero : (g : Geometry) (c : Command) (s : State) → stepOn g c s .answer ≡ 7 ∷ 0 ∷ [] → ⊥
+pub no-refusal-zero : NoRefusalZero
 unfolding step decided
 no-refusal-zero g c s e =
     cases (eqb number 0)
@@ -91,14 +95,32 @@ no-refusal-zero g c s e =
         refusal g (lengths (s .tables)) (policies (g .ways) (s .domains)) (domainOf (s .domains) (c .domain) .counts)
         (dropsOf g (c .domain) (c .argument) s) (c .domain) (c .kind) (c .argument)
 
+-- of the steps that no verdict turns down only a policy change answers word 6
+pub policy-word : PolicyWord
+unfolding step decided
+policy-word g d kind arg s e =
+    cases (eqb number 0)
+    (λ t. by (rw t at e))
+    (λ t. absurd (omega (arith, rw t at e)))
+  where
+    number : ℕ
+    number =
+        refusal g (lengths (s .tables)) (policies (g .ways) (s .domains)) (domainOf (s .domains) d .counts) (dropsOf g d arg s) d kind arg
+
+    by : getD (stepBy (kindOf kind) g d arg s .answer) 0 0 ≡ 6 → kind ≡ 16
+    unfolding kindOf stepBy useLine onSet rowEffect
+    by q =
+        cases (ltb kind 3)
+        (λ a. absurd (not-low 6 (access-word _ _ _ _ (eqb kind 2)) (omega arith) (rw a at q)))
+        (λ a. cases (eqb kind 3)
+        (λ b. absurd (not-low 6 (flush-word _ _ _) (omega arith) (rw (a, b) at q)))
+        (λ b. cases (eqb kind 16)
+        (λ c. eqb-true kind 16 c)
+        (λ c. absurd (omega (arith, rw (a, b, c) at q)))))
+
 -- ---- what a policy change answers
 
--- `policy` with two numbers, or `refused` with one that is not 0.
-pub data PolicyAnswer : List ℕ → Type 0 where
-  changed : (dropped dirty : ℕ) → PolicyAnswer (6 ∷ dropped ∷ dirty ∷ [])
-  turned-down : (n : ℕ) → (n ≡ 0 → ⊥) → PolicyAnswer (7 ∷ n ∷ [])
-
-pub policy-answer : (g : Geometry) (d arg : ℕ) (s : State) → PolicyAnswer (step g d 16 arg s .answer)
+pub policy-answer : PolicyAnswer
 unfolding step decided kindOf stepBy changePolicy
 policy-answer g d arg s =
     cases (eqb number 0) (λ t. rw t (changed _ _)) (λ t. rw t (turned-down number (eqb-false number 0 t)))
@@ -119,10 +141,9 @@ row-drops W i old new t =
     )
 
 -- in all no more than there are lines: "drop counts, now up to 65,536", whatever the tables hold
-pub drops-most : (g : Geometry) (d arg : ℕ) (s : State) → Limited g → {n m : ℕ} → step g d 16 arg s .answer ≡ 6 ∷ n ∷ m ∷ []
-    → (n ≤ maxSets * 16) × (m ≤ maxSets * 16)
+pub drops-most : DropsMost
 unfolding step decided kindOf stepBy changePolicy droppedBy
-drops-most g d arg s l {n} {m} e =
+drops-most g d arg s l n m e =
     cases (eqb number 0)
     (λ t. let first : n ≡ lines (dropped old new) = cc (rw t at e) in
     let second : m ≡ lines (droppedDirty old new) = cc (rw t at e) in (

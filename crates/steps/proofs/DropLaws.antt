@@ -19,6 +19,7 @@ use Rattle.verdict.specs.Refusal.{heldElsewhere, sharesWay}
 use Rattle.geometry.specs.declared.Geometry.{Geometry}
 use Rattle.steps.specs.Tables.{Tables, rowAt, total}
 use Rattle.steps.specs.Step.{State, droppedBy, dropsOf}
+use Rattle.steps.specs.Statements.{DropsAll}
 use Rattle.steps.proofs.TotalLaws.{total-le}
 
 -- a set has no more lines than ways
@@ -54,9 +55,9 @@ module _ (g : Geometry) (e arg : ℕ) (s : State) where
       le-trans (total-le (g .ways) (g .sets) (g .ways) (linesIn map) (s .tables) (λ i h. row-lines-most (g .ways) i map (s .tables)))
       (le-of-eq (mul-comm (g .ways) (g .sets)))
 
-  -- of a change that number 8 lets pass they are all that it drops
-  pub drops-all : sharesWay (policies (g .ways) (s .domains)) e (newMaps arg) ≡ false → dropsOf g e arg s ≡ droppedBy g e arg s
-  unfolding dropsOf droppedBy dropped
-  drops-all free =
-      ap (λ (map : Bits). total (g .ways) (g .sets) (linesIn map) (s .tables))
-      (drop-ways-all (g .ways) (policies (g .ways) (s .domains)) (policies (g .ways) (s .domains) e) e arg free)
+-- of a change that number 8 lets pass they are all that it drops
+pub drops-all : DropsAll
+unfolding dropsOf droppedBy dropped
+drops-all g e arg s free =
+    ap (λ (map : Bits). total (g .ways) (g .sets) (linesIn map) (s .tables))
+    (drop-ways-all (g .ways) (policies (g .ways) (s .domains)) (policies (g .ways) (s .domains) e) e arg free)

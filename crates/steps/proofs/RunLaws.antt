@@ -30,6 +30,7 @@ use Rattle.steps.specs.Step.{State, Outcome, onSet, rowEffect, useLine, 
 use Rattle.steps.specs.Run.{stepOn, finally}
 use Rattle.steps.specs.Fresh.{freshTables, freshDomains, fresh}
 use Rattle.steps.specs.Inside.{Whole, numberBy, changeNumber, lineWork}
+use Rattle.steps.specs.Statements.{Kept, RunKept}
 use Rattle.steps.proofs.SetLaws.{row-long}
 use Rattle.steps.proofs.StateLaws.{
   step-beyond,
@@ -105,20 +106,15 @@ module _ (g : Geometry) (limits : within g ≡ true) where
 
   -- ---- every state
 
-  -- The tables have their lengths, there are sixteen domains, and every stored policy is as it is read.
-  pub record Kept (s : State) : Type 0 where
-    pub whole : Whole g s
-    pub as-stored : (e : ℕ) → asRead (g .ways) (mapsOf (domainOf (s .domains) e)) ≡ mapsOf (domainOf (s .domains) e)
-
   -- a stored policy is as it is read, and so is one with the same maps
   same-maps : (x y : Domain) → mapsOf x ≡ mapsOf y → asRead (g .ways) (mapsOf y) ≡ mapsOf y → asRead (g .ways) (mapsOf x) ≡ mapsOf x
   same-maps x y e = subst (λ (m : Maps). asRead (g .ways) m ≡ m) (sym e)
 
-  pub fresh-kept : Kept (fresh g)
+  pub fresh-kept : Kept g limits (fresh g)
   unfolding asRead word bit
   fresh-kept = record { whole = fresh-whole; as-stored = λ e. same-maps (domainOf (fresh g .domains) e) noDomain (ap mapsOf (fresh-domain e)) refl }
 
-  module _ (s : State) (kept : Kept s) (e : ℕ) (k : e < 16) (arg : ℕ) where
+  module _ (s : State) (kept : Kept g limits s) (e : ℕ) (k : e < 16) (arg : ℕ) where
     pub inside : setOf g arg < g .sets
     unfolding setOf
     inside = mod-lt (arg / 64) (l .some-set)
@@ -134,7 +130,7 @@ module _ (g : Geometry) (limits : within g ≡ true) where
         (rowAt (g .ways) (setOf g arg) (s .tables))
         ∙ row-long g (kept .whole .shaped) (setOf g arg) inside
 
-    pub line-kept : (flushes store : Bool) → Kept (useLine g (lineWork flushes (ruleOf (g .rule) (g .ways)) store) e arg s .state)
+    pub line-kept : (flushes store : Bool) → Kept g limits (useLine g (lineWork flushes (ruleOf (g .rule) (g .ways)) store) e arg s .state)
     unfolding useLine rowEffect
     line-kept flushes store =
         let x = worked flushes store in
@@ -146,7 +142,7 @@ module _ (g : Geometry) (limits : within g ≡ true) where
               (line-maps g s (kept .whole) e k (setOf g arg) inside x long f) (kept .as-stored f);
         }
 
-    pub change-kept : changeNumber g e arg s ≡ 0 → Kept (changePolicy g e arg s .state)
+    pub change-kept : changeNumber g e arg s ≡ 0 → Kept g limits (changePolicy g e arg s .state)
     unfolding newDomain
     change-kept z = record {
       whole = changed-whole g e k arg s (kept .whole);
@@ -164,8 +160,8 @@ module _ (g : Geometry) (limits : within g ≡ true) where
             (good-maps (g .ways) arg (passed g s e arg z .good))
 
   -- A run keeps it; so in a run from a fresh cache stored maps need no cutting.
-  pub kept-lasts : (cs : List Command) (s : State) → Kept s → Kept (finally g cs s)
-  kept-lasts = run-lasts g limits Kept (λ s kept. kept .whole) (λ s kept e k z. line-kept s kept e k) change-kept
+  pub kept-lasts : (cs : List Command) (s : State) → Kept g limits s → Kept g limits (finally g cs s)
+  kept-lasts = run-lasts g limits Kept g limits (λ s kept. kept .whole) (λ s kept e k z. line-kept s kept e k) change-kept
 
-  pub run-kept : (cs : List Command) → Kept (finally g cs (fresh g))
-  run-kept cs = kept-lasts cs (fresh g) fresh-kept
+pub run-kept : RunKept
+run-kept g limits cs = kept-lasts g limits cs (fresh g) (fresh-kept g limits)

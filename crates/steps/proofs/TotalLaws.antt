@@ -17,6 +17,7 @@ use Rattle.sweep.specs.Number.{linesAmong}
 use Rattle.geometry.specs.declared.Geometry.{Geometry}
 use Rattle.steps.specs.Tables.{Tables, rowAt, total}
 use Rattle.steps.specs.Inside.{Shaped}
+use Rattle.steps.specs.Statements.{AmongTotal}
 use Rattle.steps.proofs.SetLaws.{row-long}
 
 -- set by set the same
@@ -88,6 +89,6 @@ module _ (g : Geometry) (t : Tables) (shaped : Shaped g t) (map : Bits) (within 
       ∙ among-append map (take n (t .valid)) (getD (t .valid) n 0 ∷ [])
       ∙ ap₂ _+_ (first-lines n (omega arith)) (add-zero (count 16 (λ (w : ℕ). map w && bit (getD (t .valid) n 0) w)) ∙ row-lines n h)
 
-  pub among-total : linesAmong map (t .valid) ≡ total (g .ways) (g .sets) (linesIn map) t
-  among-total =
-      ap (linesAmong map) (sym (take-all (g .sets) (t .valid) (omega (arith, shaped .valid-long)))) ∙ first-lines (g .sets) (omega arith)
+pub among-total : AmongTotal
+among-total g t shaped map within =
+    ap (linesAmong map) (sym (take-all (g .sets) (t .valid) (omega (arith, shaped .valid-long)))) ∙ first-lines g t shaped map within (g .sets) (omega arith)

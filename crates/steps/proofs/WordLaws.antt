@@ -23,14 +23,8 @@ use Rattle.steps.specs.Run.{finally}
 use Rattle.steps.specs.Fresh.{freshTables, fresh}
 use Rattle.steps.specs.Inside.{changeNumber, lineWork}
 use Rattle.steps.proofs.StateLaws.{line-row, line-row-other, changed-row}
-use Rattle.steps.proofs.RunLaws.{run-lasts, Kept, fresh-kept, worked, worked-long, line-kept, change-kept, inside}
-
--- What a fresh word has, and every word that the rule makes of one that has it.
-pub record Lasting (R : Rule) (P : ℕ → Type 0) : Type 0 where
-  pub begins : P (R .fresh)
-  pub before : (map x : ℕ) → P x → P (R .before map x)
-  pub touch : (map w x : ℕ) → P x → P (R .touch map w x)
-  pub reset : (old new x : ℕ) → P x → P (R .reset old new x)
+use Rattle.steps.specs.Statements.{Kept, Lasting, WordsLast}
+use Rattle.steps.proofs.RunLaws.{run-lasts, fresh-kept, worked, worked-long, line-kept, change-kept, inside}
 
 -- ---- one set
 
@@ -97,5 +91,7 @@ module _ (g : Geometry) (limits : within g ≡ true) (P : ℕ → Type 0) (lasti
     all = λ i h. subst P (sym (getD-replicate (g .sets) i (ruleOf (g .rule) (g .ways) .fresh) 0 h)) (lasting .begins);
   }
 
-  pub words-last : (cs : List Command) (i : ℕ) → i < g .sets → P (rowAt (g .ways) i (finally g cs (fresh g) .tables) .word)
-  words-last cs = run-lasts g limits Words (λ s q. q .kept .whole) (λ s q e k z. line-words s q e k) change-words cs (fresh g) fresh-words .all
+pub words-last : WordsLast
+words-last g limits P lasting cs =
+    run-lasts g limits (Words g limits P lasting) (λ s q. q .kept .whole) (λ s q e k z. line-words g limits P lasting s q e k)
+    (change-words g limits P lasting) cs (fresh g) (fresh-words g limits P lasting) .all

@@ -5,3 +5,4 @@ pub mod Run
 pub mod Fresh
 pub mod Inside
 pub mod Deed
+pub mod Statements

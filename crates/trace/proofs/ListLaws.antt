@@ -18,7 +18,8 @@ use Rattle.geometry.specs.declared.Geometry.{Geometry}
 use Rattle.geometry.proofs.GeometryLaws.{limited, rows-fit}
 use Rattle.steps.specs.Tables.{Tables, lengths}
 use Rattle.steps.specs.Step.{tablesOf}
-use Rattle.tracefile.proofs.FileLaws.{Accepted, accepted}
+use Rattle.tracefile.specs.Statements.{Accepted}
+use Rattle.tracefile.proofs.FileLaws.{accepted}
 use Rattle.tracefile.specs.File.{maxSteps, maxFileSets, stepCount, stepsOf, fileRefusal}
 use Rattle.listing.specs.Listing.{refusedLine, runLines, listing}
 use Rattle.trace.specs.Calls.{Listed, listedOf, onto, ontoTables, lastTables, listOf}

@@ -12,6 +12,7 @@ use Rattle.geometry.specs.Geometry.{within}
 use Rattle.geometry.specs.Named.{geometryOf}
 use Rattle.geometry.specs.declared.Geometry.{Geometry}
 use Rattle.tracefile.specs.File.{stepCount, maxSteps, maxFileSets, badFile, fileRefusal}
+use Rattle.tracefile.specs.Statements.{Accepted, FileAccepted}
 
 -- ---- the file's refusal
 
@@ -49,14 +50,7 @@ module _ (file : List ℕ) {n : ℕ} (named : n ≡ stepCount file) (long : 8 �
 
 -- ---- a file that is not refused
 
-pub record Accepted (file : List ℕ) : Type 0 where
-  pub long : 8 ≤ length file
-  pub whole : length file ≡ 8 + 10 * stepCount file
-  pub short : stepCount file ≤ maxSteps
-  pub few-sets : geometryOf file .sets ≤ maxFileSets
-  pub limits : within (geometryOf file) ≡ true
-
-pub accepted : (file : List ℕ) → fileRefusal file ≡ 0 → Accepted file
+pub accepted : FileAccepted
 unfolding fileRefusal badFile
 accepted file e =
     cases (ltb (length file) 8)

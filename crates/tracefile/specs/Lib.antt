@@ -1,2 +1,3 @@
 -- The trace file: document 01, "Trace file and listing".
 pub mod File
+pub mod Statements
