@@ -96,27 +96,27 @@ no-refusal-zero g c s e =
         (dropsOf g (c .domain) (c .argument) s) (c .domain) (c .kind) (c .argument)
 
 -- of the steps that no verdict turns down only a policy change answers word 6
+six-by : (kind : ℕ) (g : Geometry) (d arg : ℕ) (s : State) → getD (stepBy (kindOf kind) g d arg s .answer) 0 0 ≡ 6 → kind ≡ 16
+unfolding kindOf stepBy useLine onSet rowEffect
+six-by kind g d arg s e =
+    cases (ltb kind 3)
+    (λ a. absurd (not-low 6 (access-word _ _ _ _ (eqb kind 2)) (omega arith) (rw a at e)))
+    (λ a. cases (eqb kind 3)
+    (λ b. absurd (not-low 6 (flush-word _ _ _) (omega arith) (rw (a, b) at e)))
+    (λ b. cases (eqb kind 16)
+    (λ c. eqb-true kind 16 c)
+    (λ c. absurd (omega (arith, rw (a, b, c) at e)))))
+
 pub policy-word : PolicyWord
 unfolding step decided
 policy-word g d kind arg s e =
     cases (eqb number 0)
-    (λ t. by (rw t at e))
+    (λ t. six-by kind g d arg s (rw t at e))
     (λ t. absurd (omega (arith, rw t at e)))
   where
     number : ℕ
     number =
         refusal g (lengths (s .tables)) (policies (g .ways) (s .domains)) (domainOf (s .domains) d .counts) (dropsOf g d arg s) d kind arg
-
-    by : getD (stepBy (kindOf kind) g d arg s .answer) 0 0 ≡ 6 → kind ≡ 16
-    unfolding kindOf stepBy useLine onSet rowEffect
-    by q =
-        cases (ltb kind 3)
-        (λ a. absurd (not-low 6 (access-word _ _ _ _ (eqb kind 2)) (omega arith) (rw a at q)))
-        (λ a. cases (eqb kind 3)
-        (λ b. absurd (not-low 6 (flush-word _ _ _) (omega arith) (rw (a, b) at q)))
-        (λ b. cases (eqb kind 16)
-        (λ c. eqb-true kind 16 c)
-        (λ c. absurd (omega (arith, rw (a, b, c) at q)))))
 
 -- ---- what a policy change answers
 

@@ -161,7 +161,7 @@ module _ (g : Geometry) (limits : within g ≡ true) where
 
   -- A run keeps it; so in a run from a fresh cache stored maps need no cutting.
   pub kept-lasts : (cs : List Command) (s : State) → Kept g limits s → Kept g limits (finally g cs s)
-  kept-lasts = run-lasts g limits Kept g limits (λ s kept. kept .whole) (λ s kept e k z. line-kept s kept e k) change-kept
+  kept-lasts = run-lasts g limits (Kept g limits) (λ s kept. kept .whole) (λ s kept e k z. line-kept s kept e k) change-kept
 
 pub run-kept : RunKept
 run-kept g limits cs = kept-lasts g limits cs (fresh g) (fresh-kept g limits)
