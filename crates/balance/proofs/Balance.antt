@@ -25,7 +25,8 @@ use Rattle.reached.specs.Reached.{Reached}
 use Rattle.reached.proofs.Reached.{run-reached, reached-whole, reached-balanced, reached-unspent}
 use Rattle.cores.specs.Step.{Lent, answerBy, cacheBy, coreStep}
 use Rattle.cores.specs.Run.{coreAnswers, coreFinally, freshLent}
-use Rattle.cores.proofs.RunLaws.{Standing, fresh-standing, step-means, step-standing, run-plain}
+use Rattle.cores.specs.Statements.{Standing}
+use Rattle.cores.proofs.RunLaws.{fresh-standing, step-means, step-standing, run-plain}
 use Rattle.balance.specs.Tally.{tallied, tally, talliedBy, coreTally}
 use Rattle.balance.specs.Balance.{InBalance, Balance, CoreBalance, LinesInLinesOut, CoreLinesInLinesOut}
 use Rattle.balance.proofs.TallyLaws.{run-tallied}

@@ -17,6 +17,7 @@ use Rattle.domains.specs.declared.Domain.{Domain}
 use Rattle.domains.specs.declared.Domains.{Domains}
 use Rattle.block.specs.Layout.{sizes, countsFrom, countsIn, domainsFrom, stateIn, sevenOf, countsBytes}
 use Rattle.block.specs.Inside.{Blocked, contentsIn, contents, withDomain}
+use Rattle.block.specs.Statements.{CountsFit}
 use Rattle.block.proofs.PartLaws.{part, size, start, written, part-is, part-long, number-of, stored, put-stored}
 
 -- ---- records side by side
@@ -44,15 +45,6 @@ from-set (h ∷ hs) (f ∷ fs) (c ∷ cs) (suc d) x = ap (λ (xs : List Domain).
 -- ---- counts
 
 -- The counts are numbers of 32 bits.
-pub record CountsFit (c : Counts) : Type 0 where
-  pub hits : c .hits < 256 ^ 4
-  pub misses : c .misses < 256 ^ 4
-  pub evicted : c .evicted < 256 ^ 4
-  pub written : c .written < 256 ^ 4
-  pub flushed : c .flushed < 256 ^ 4
-  pub fills : c .fills < 256 ^ 4
-  pub dropped : c .dropped < 256 ^ 4
-
 pub seven-fit : (c : Counts) → CountsFit c → (i : ℕ) → getD (sevenOf c) i 0 < 256 ^ 4
 seven-fit c f zero = f .hits
 seven-fit c f (suc zero) = f .misses

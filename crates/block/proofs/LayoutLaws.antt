@@ -7,9 +7,9 @@ use native.Mathlib.Omega.{arith}
 use lib.ListN.{length, take, drop, replicate, length-drop, length-map}
 use lib.Seq.{length-take-le, take-add}
 use Rattle.endian.specs.Bytes.{value, digits, field, cut, joined}
-use Rattle.runs.specs.Runs.{numbers, bytesOf}
+use Rattle.runs.specs.Runs.{numbers, bytesOf, Bytes}
 use Rattle.endian.proofs.CutLaws.{join-cut, cut-long}
-use Rattle.runs.proofs.TableLaws.{Bytes, bytes-take, bytes-drop, digits-value, bytes-numbers, numbers-long}
+use Rattle.runs.proofs.TableLaws.{bytes-take, bytes-drop, digits-value, bytes-numbers, numbers-long}
 use Rattle.geometry.specs.Named.{geometryOf}
 use Rattle.geometry.specs.declared.Geometry.{Geometry}
 use Rattle.domains.specs.Domains.{maxDomains}
@@ -17,6 +17,7 @@ use Rattle.domains.specs.declared.Counts.{Counts}
 use Rattle.domains.specs.declared.Domain.{Domain}
 use Rattle.block.specs.Layout.{sizes, zerosIn, countsFrom, countsIn, domainsFrom, stateIn, headOf, countsBytes, stateBytes}
 use Rattle.block.specs.Inside.{Blocked, contentsIn, contents}
+use Rattle.block.specs.Statements.{BlockAgain, HeadAgain}
 use Rattle.block.proofs.PartLaws.{part, size, start, part-is, part-long}
 
 -- ---- what is read, written again
@@ -74,9 +75,9 @@ module _ (g : Geometry) (block : List ℕ) (b : Blocked g block) (bytes : Bytes 
       ap joined (all-counts 16 (part g block 3) long (part-bytes 3 (omega arith))) ∙ join-cut (replicate maxDomains 28) (part g block 3) long
 
   -- all parts
-  pub block-again : stateBytes (contents g block .head) (contents g block .state) ≡ block
+  parts-again : stateBytes (contents g block .head) (contents g block .state) ≡ block
   unfolding stateBytes contents contentsIn stateIn sizes
-  block-again = (λ i. joined
+  parts-again = (λ i. joined
       (part g block 0
       ∷ (ap (bytesOf 2) (from .0) ∙ table-again 1 2 16 (omega arith) refl) i
       ∷ (ap (bytesOf 2) (from .1) ∙ table-again 2 2 16 (omega arith) refl) i
@@ -104,10 +105,13 @@ module _ (g : Geometry) (block : List ℕ) (b : Blocked g block) (bytes : Bytes 
           (length-map (cut (replicate maxDomains 28) (part g block 3)) countsIn ∙ cut-long (replicate maxDomains 28) (part g block 3)
           ∙ sym (numbers-long 2 16 (part g block 1)))
 
+pub block-again : BlockAgain
+block-again = parts-again
+
 -- ---- the head
 
 -- The first eight bytes are those of the geometry that they name, if the last four are zero.
-pub head-again : (block : List ℕ) → 8 ≤ length block → Bytes block → zerosIn block ≡ 0 → headOf (geometryOf block) ≡ take 8 block
+pub head-again : HeadAgain
 unfolding headOf field
 head-again block h b z =
     (λ i. field-again 0 2 (omega arith) i ++ field-again 2 1 (omega arith) i ++ field-again 3 1 (omega arith) i ++ zeros i)

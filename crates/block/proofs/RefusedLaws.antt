@@ -8,7 +8,7 @@ use lib.ListN.{length, getD}
 use borrow.Author.Tests.{eqb-true}
 use Rattle.waymap.proofs.Booleans.{cases}
 use Rattle.endian.specs.Bytes.{cut}
-use Rattle.runs.proofs.TableLaws.{Bytes}
+use Rattle.runs.specs.Runs.{Bytes}
 use Rattle.geometry.specs.Named.{geometryOf}
 use Rattle.geometry.specs.declared.Geometry.{Geometry}
 use Rattle.steps.specs.Step.{step}
@@ -16,11 +16,12 @@ use Rattle.steps.proofs.AnswerLaws.{refused-stays}
 use Rattle.block.specs.Layout.{sizes, stateOf, stateBytes, blockOf}
 use Rattle.block.specs.Block.{lengthRefusal, blockRefusal, freshCall, stepTurn, numberIn, stepCall}
 use Rattle.block.specs.Inside.{Blocked, contentsIn, contents}
+use Rattle.block.specs.Statements.{PassedAgain, StepRefusedLeaves, FreshRefusedLeaves}
 use Rattle.block.proofs.HeadLaws.{blocked, passed}
 use Rattle.block.proofs.LayoutLaws.{block-again, head-again}
 
 -- A block that a step is let onto, read and written again.
-pub passed-again : (block : List ℕ) (n : ℕ) → Bytes block → blockRefusal block n ≡ 0 → blockOf (geometryOf block) (stateOf (geometryOf block) block) ≡ block
+pub passed-again : PassedAgain
 unfolding blockOf stateOf contents contentsIn cut sizes
 passed-again block n bytes e =
     let g : Geometry = geometryOf block in
@@ -33,8 +34,7 @@ number-seven : (told : List ℕ) → (numberIn told ≡ 0 → ⊥) → getD told
 unfolding numberIn
 number-seven told h = cases (eqb (getD told 0 0) 7) (λ t. eqb-true (getD told 0 0) 7 t) (λ t. absurd (h (rw t)))
 
-pub step-refused-leaves : (block answer : List ℕ) (d kind arg : ℕ) → Bytes block → (stepCall block answer d kind arg .result ≡ 0 → ⊥)
-    → stepCall block answer d kind arg .block ≡ block
+pub step-refused-leaves : StepRefusedLeaves
 unfolding stepCall stepTurn
 step-refused-leaves block answer d kind arg bytes h =
     cases (eqb (blockRefusal block (length answer)) 0)
@@ -47,7 +47,7 @@ step-refused-leaves block answer d kind arg bytes h =
     g : Geometry
     g = geometryOf block
 
-pub fresh-refused-leaves : (g : Geometry) (block : List ℕ) → (freshCall g block .result ≡ 0 → ⊥) → freshCall g block .block ≡ block
+pub fresh-refused-leaves : FreshRefusedLeaves
 unfolding freshCall
 fresh-refused-leaves g block h =
     cases (eqb (lengthRefusal g (length block)) 0)

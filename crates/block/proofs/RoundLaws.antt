@@ -16,21 +16,8 @@ use Rattle.domains.specs.declared.Domain.{Domain}
 use Rattle.steps.specs.Step.{State}
 use Rattle.steps.specs.Inside.{Whole}
 use Rattle.block.specs.Layout.{sizes, blockBytes, zerosIn, countsIn, domainsFrom, stateIn, stateOf, headOf, countsBytes, stateBytes, blockOf}
-use Rattle.block.proofs.DomainLaws.{CountsFit, counts-long, counts-back}
-
--- A domain's maps have 16 bits, its counts 32.
-pub record DomainFits (x : Domain) : Type 0 where
-  pub hit : x .hit < 256 ^ 2
-  pub fill : x .fill < 256 ^ 2
-  pub counts : CountsFit (x .counts)
-
--- All numbers of a state.
-pub record StateFits (s : State) : Type 0 where
-  pub tags : (i : ℕ) → getD (s .tables .tags) i 0 < 256 ^ 8
-  pub valid : (i : ℕ) → getD (s .tables .valid) i 0 < 256 ^ 2
-  pub dirty : (i : ℕ) → getD (s .tables .dirty) i 0 < 256 ^ 2
-  pub words : (i : ℕ) → getD (s .tables .words) i 0 < 256 ^ 8
-  pub domain : (d : ℕ) → DomainFits (getD (s .domains .records) d noDomain)
+use Rattle.block.specs.Statements.{DomainFits, StateFits, StateAgain, BlockLong, GeometryAgain, ZerosAgain}
+use Rattle.block.proofs.DomainLaws.{counts-long, counts-back}
 
 -- ---- the parts that are written
 
@@ -92,27 +79,6 @@ module _ (g : Geometry) (s : State) (whole : Whole g s) where
   unfolding blockOf stateBytes
   parts-again = ap (λ (ns : List ℕ). cut ns (joined (partsOf g s))) (sym parts-long) ∙ cut-join (partsOf g s)
 
-  -- A block that is written has its length, names its geometry, and has its zero bytes.
-  pub block-long : length (blockOf g s) ≡ blockBytes g
-  unfolding blockOf stateBytes
-  block-long = joined-long (partsOf g s) ∙ ap sum parts-long
-
-  pub geometry-again : g .rule < 256 → geometryOf (blockOf g s) ≡ g
-  unfolding blockOf stateBytes joined headOf digits field value
-  geometry-again r =
-      let l = whole .shaped .limited in
-      λ i. record { sets = two (g .sets) (omega (arith, l .most-sets)) i; ways = one (g .ways) (omega (arith, l .most-ways)) i; rule = one (g .rule) r i }
-    where
-      two : (n : ℕ) → n < 65536 → n % 256 + 256 * (n / 256 % 256 + 256 * 0) ≡ n
-      two n h = omega arith
-
-      one : (n : ℕ) → n < 256 → n % 256 + 256 * 0 ≡ n
-      one n h = omega arith
-
-  pub zeros-again : zerosIn (blockOf g s) ≡ 0
-  unfolding blockOf stateBytes joined headOf digits field value
-  zeros-again = refl
-
   -- And it is read as the state that was written.
   module _ (fits : StateFits s) where
     maps-again : (f : Domain → ℕ) → f noDomain ≡ 0 → ((d : ℕ) → f (getD ds d noDomain) < 256 ^ 2) → numbers 2 16 (bytesOf 2 (map f ds)) ≡ map f ds
@@ -131,9 +97,9 @@ module _ (g : Geometry) (s : State) (whole : Whole g s) where
         ∙ cut-join (map (λ (x : Domain). countsBytes (x .counts)) ds))
         ∙ counts-read ds (fits .domain)
 
-    pub state-again : stateOf g (blockOf g s) ≡ s
+    all-again : stateOf g (blockOf g s) ≡ s
     unfolding stateOf stateIn
-    state-again = ap (stateIn g) parts-again ∙ (λ i. record {
+    all-again = ap (stateIn g) parts-again ∙ (λ i. record {
       tables = record {
         tags = table-again 8 (g .sets * g .ways) (s .tables .tags) (whole .shaped .tags-long) (fits .tags) i;
         valid = table-again 2 (g .sets) (s .tables .valid) (whole .shaped .valid-long) (fits .valid) i;
@@ -150,3 +116,27 @@ module _ (g : Geometry) (s : State) (whole : Whole g s) where
             (maps-again (λ (x : Domain). x .hit) refl (λ d. fits .domain d .hit) i)
             (maps-again (λ (x : Domain). x .fill) refl (λ d. fits .domain d .fill) i)
             (counts-again i)
+
+pub state-again : StateAgain
+state-again = all-again
+
+-- A block that is written has its length, names its geometry, and has its zero bytes.
+pub block-long : BlockLong
+unfolding blockOf stateBytes
+block-long g s whole = joined-long (partsOf g s) ∙ ap sum (parts-long g s whole)
+
+pub geometry-again : GeometryAgain
+unfolding blockOf stateBytes joined headOf digits field value
+geometry-again g s whole r =
+    let l = whole .shaped .limited in
+    λ i. record { sets = two (g .sets) (omega (arith, l .most-sets)) i; ways = one (g .ways) (omega (arith, l .most-ways)) i; rule = one (g .rule) r i }
+  where
+    two : (n : ℕ) → n < 65536 → n % 256 + 256 * (n / 256 % 256 + 256 * 0) ≡ n
+    two n h = omega arith
+
+    one : (n : ℕ) → n < 256 → n % 256 + 256 * 0 ≡ n
+    one n h = omega arith
+
+pub zeros-again : ZerosAgain
+unfolding blockOf stateBytes joined headOf digits field value
+zeros-again g s whole = refl

@@ -9,7 +9,7 @@ use borrow.Author.Tests.{eq-eqb, ne-eqb}
 use denote.Enum.Declared.{tagOf}
 use Rattle.endian.specs.Bytes.{cut}
 use Rattle.endian.proofs.FieldLaws.{field-front}
-use Rattle.runs.proofs.TableLaws.{Bytes}
+use Rattle.runs.specs.Runs.{Bytes}
 use Rattle.command.specs.Answer.{answerOf}
 use Rattle.command.specs.Kind.{kindOf, kindIs}
 use Rattle.command.specs.declared.Answer.{Answer}

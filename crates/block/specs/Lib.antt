@@ -2,3 +2,4 @@
 pub mod Layout
 pub mod Block
 pub mod Inside
+pub mod Statements

@@ -1,3 +1,4 @@
 -- The call of a step.
 pub mod Calls
 pub mod Inside
+pub mod Statements

@@ -17,34 +17,29 @@ use Rattle.steps.specs.Step.{Outcome}
 use Rattle.steps.specs.Run.{stepOn, answersOf, finally}
 use Rattle.cores.specs.Step.{Lent, Result, answerBy, cacheBy, lentRefusal, coreStep}
 use Rattle.cores.specs.Run.{coreAnswers, coreFinally}
+use Rattle.cores.specs.Statements.{beside, OtherStep, OthersAnswers, OthersFinally}
 use Rattle.cores.proofs.TurnLaws.{unsized-step}
 
-module _ (g : Geometry) where
-  -- the cache's outcome, with the records as they were
-  abbrev beside : Lent → Outcome → Result
-  beside x o = record { answer = o .answer; lent = record { cache = o .state; cores = x .cores } }
+-- on tables and domains of any content, and records of any content
+pub other-step : OtherStep
+unfolding coreStep lentRefusal answerBy cacheBy recordsBy
+other-step g c x other few =
+    let sizes = sizesOf g (lengths (x .cache .tables)) in
+    cases (eqb sizes 0)
+    (λ t. rw (t, le-ltb maxCores (length (x .cores)) few, other-meant (x .cores) c other))
+    (λ t. rw (t, t, unsized-step g c (x .cache) (eqb-false sizes 0 t)))
 
-  -- on tables and domains of any content, and records of any content
-  pub other-step : (c : Command) (x : Lent) → namesCore (c .kind) ≡ false → length (x .cores) ≤ maxCores → coreStep g c x ≡ beside x (stepOn g c (x .cache))
-  unfolding coreStep lentRefusal answerBy cacheBy recordsBy
-  other-step c x other few =
-      let sizes = sizesOf g (lengths (x .cache .tables)) in
-      cases (eqb sizes 0)
-      (λ t. rw (t, le-ltb maxCores (length (x .cores)) few, other-meant (x .cores) c other))
-      (λ t. rw (t, t, unsized-step g c (x .cache) (eqb-false sizes 0 t)))
+pub others-answers : OthersAnswers
+unfolding coreAnswers answersOf
+others-answers g [] x none few = refl
+others-answers g (c ∷ cs) x none few =
+    let first = coreless-next c cs none in
+    rw (other-step g c x (first .0) few)
+    (ap (λ (l : List (List ℕ)). stepOn g c (x .cache) .answer ∷ l) (others-answers g cs (beside x (stepOn g c (x .cache)) .lent) (first .1) few))
 
-  pub others-answers : (cs : List Command) (x : Lent) → coreless cs ≡ true → length (x .cores) ≤ maxCores → coreAnswers g cs x ≡ answersOf g cs (x .cache)
-  unfolding coreAnswers answersOf
-  others-answers [] x none few = refl
-  others-answers (c ∷ cs) x none few =
-      let first = coreless-next c cs none in
-      rw (other-step c x (first .0) few)
-      (ap (λ (l : List (List ℕ)). stepOn g c (x .cache) .answer ∷ l) (others-answers cs (beside x (stepOn g c (x .cache)) .lent) (first .1) few))
-
-  pub others-finally : (cs : List Command) (x : Lent) → coreless cs ≡ true → length (x .cores) ≤ maxCores
-      → coreFinally g cs x ≡ record { cache = finally g cs (x .cache); cores = x .cores }
-  unfolding coreFinally finally
-  others-finally [] x none few = refl
-  others-finally (c ∷ cs) x none few =
-      let first = coreless-next c cs none in
-      rw (other-step c x (first .0) few) (others-finally cs (beside x (stepOn g c (x .cache)) .lent) (first .1) few)
+pub others-finally : OthersFinally
+unfolding coreFinally finally
+others-finally g [] x none few = refl
+others-finally g (c ∷ cs) x none few =
+    let first = coreless-next c cs none in
+    rw (other-step g c x (first .0) few) (others-finally g cs (beside x (stepOn g c (x .cache)) .lent) (first .1) few)

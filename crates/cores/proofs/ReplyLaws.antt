@@ -16,6 +16,7 @@ use Rattle.cores.specs.declared.Reply.{Reply}
 use Rattle.cores.specs.declared.Reply.the-variants.{Cache, Select}
 use Rattle.cores.specs.declared.Stepped.{Stepped}
 use Rattle.cores.specs.declared.Turned.{Turned}
+use Rattle.cores.specs.Statements.{ResultInjective, TurnInjective}
 
 -- no answer of the cache has the word of a selector write
 word-low : (a : Answer) → getD (answerOf a) 0 0 ≡ 8 → ⊥
@@ -42,14 +43,14 @@ reply-injective (Select j) (Select k) e = λ i. Select (record { cs = value 1 e 
 stepped-same : (p q : Stepped) → replyOf (p .reply) ≡ replyOf (q .reply) → p .domains ≡ q .domains → p ≡ q
 stepped-same p q e d = λ i. record { reply = reply-injective (p .reply) (q .reply) e i; domains = d i }
 
-pub result-injective : (p q : Stepped) (t u : Tables) (x y : List Core) → resultOf p t x ≡ resultOf q u y → (p ≡ q) × (t ≡ u) × (x ≡ y)
+pub result-injective : ResultInjective
 result-injective p q t u x y e = (
   stepped-same p q (ap (λ (r : Result). r .answer) e) (ap (λ (r : Result). r .lent .cache .domains) e),
   ap (λ (r : Result). r .lent .cache .tables) e,
   ap (λ (r : Result). r .lent .cores) e,
 )
 
-pub turn-injective : (p q : Turned) (t u : Tables) → turnIs p t ≡ turnIs q u → (p ≡ q) × (t ≡ u)
+pub turn-injective : TurnInjective
 turn-injective p q t u e =
     let same = stepped-same (p .stepped) (q .stepped) (ap (λ (r : Turn). r .answer) e) (ap (λ (r : Turn). r .cache .domains) e) in
     ((λ i. record { stepped = same i; core = e i .core }), ap (λ (r : Turn). r .cache .tables) e)

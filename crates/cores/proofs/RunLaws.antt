@@ -31,20 +31,16 @@ use Rattle.steps.specs.Statements.{Kept}
 use Rattle.steps.proofs.RunLaws.{fresh-kept, kept-lasts}
 use Rattle.cores.specs.Step.{Lent, Result, answerBy, cacheBy, lentRefusal, coreStep}
 use Rattle.cores.specs.Run.{coreFinally, freshLent}
+use Rattle.cores.specs.Statements.{Standing, FreshStanding, StepStanding, RunPlain}
+
+-- fresh, lent n fresh records
+pub fresh-standing : FreshStanding
+unfolding freshLent
+fresh-standing g limits n h = record { kept = fresh-kept g limits; few = rw (length-replicate n noCore) h }
+
+-- ---- one step
 
 module _ (g : Geometry) (limits : within g ≡ true) where
-  -- a cache that a run keeps, and no more records than there may be
-  pub record Standing (x : Lent) : Type 0 where
-    pub kept : Kept g limits (x .cache)
-    pub few : length (x .cores) ≤ maxCores
-
-  -- fresh, lent n fresh records
-  pub fresh-standing : (n : ℕ) → n ≤ maxCores → Standing (freshLent g n)
-  unfolding freshLent
-  fresh-standing n h = record { kept = fresh-kept g limits; few = rw (length-replicate n noCore) h }
-
-  -- ---- one step
-
   -- what a step gives by its meaning
   abbrev byMeaning : Meant → Command → Lent → Result
   byMeaning m c x = record {
@@ -52,7 +48,7 @@ module _ (g : Geometry) (limits : within g ≡ true) where
     lent = record { cache = cacheBy m g (x .cache); cores = recordsBy m (c .domain) (x .cores) };
   }
 
-  module _ (x : Lent) (s : Standing x) (c : Command) where
+  module _ (x : Lent) (s : Standing g limits x) (c : Command) where
     no-refusal : lentRefusal g (lengths (x .cache .tables)) (length (x .cores)) ≡ 0
     unfolding lentRefusal sizesOf
     no-refusal = rw (limits, whole-sized g (x .cache) (s .kept .whole), le-ltb maxCores (length (x .cores)) (s .few))
@@ -75,14 +71,6 @@ module _ (g : Geometry) (limits : within g ≡ true) where
   records-long (select core) i cores = length-set cores i core
   records-long (refused n) i cores = refl
 
-  pub step-standing : (x : Lent) → Standing x → (c : Command) → Standing (coreStep g c x .lent)
-  step-standing x s c =
-      let m = meant (x .cores) c in
-      rw (step-means x s c)
-      (record { kept = cache-kept m (x .cache) (s .kept); few = rw (records-long m (c .domain) (x .cores)) (s .few) })
-
-  -- ---- a run
-
   -- the steps that follow, from what a step leaves
   finally-by : (m : Meant) (cs : List Command) (s : State) → finally g cs (cacheBy m g s) ≡ finally g (plainBy m cs) s
   unfolding cacheBy plainBy finally
@@ -90,15 +78,22 @@ module _ (g : Geometry) (limits : within g ≡ true) where
   finally-by (select core) cs s = refl
   finally-by (refused n) cs s = refl
 
-  -- The cache at the end is that of the run of the steps meant, and the records are those of the steps alone: no table and no domain has a hand in them.
-  pub run-plain : (cs : List Command) (x : Lent) → Standing x
-      → coreFinally g cs x ≡ record { cache = finally g (plainSteps (x .cores) cs) (x .cache); cores = recordsFinally (x .cores) cs }
-  unfolding coreFinally finally plainSteps recordsFinally recordsAfter
-  run-plain [] x s = refl
-  run-plain (c ∷ cs) x s =
-      let m = meant (x .cores) c in
-      let next = recordsBy m (c .domain) (x .cores) in
-      run-plain cs (coreStep g c x .lent) (step-standing x s c)
-      ∙ ap (λ (r : Result). record { cache = finally g (plainSteps (r .lent .cores) cs) (r .lent .cache); cores = recordsFinally (r .lent .cores) cs })
-      (step-means x s c)
-      ∙ ap (λ (t : State). record { cache = t; cores = recordsFinally next cs }) (finally-by m (plainSteps next cs) (x .cache))
+pub step-standing : StepStanding
+step-standing g limits x s c =
+    let m = meant (x .cores) c in
+    rw (step-means g limits x s c)
+    (record { kept = cache-kept g limits m (x .cache) (s .kept); few = rw (records-long g limits m (c .domain) (x .cores)) (s .few) })
+
+-- ---- a run
+
+-- The cache at the end is that of the run of the steps meant, and the records are those of the steps alone: no table and no domain has a hand in them.
+pub run-plain : RunPlain
+unfolding coreFinally finally plainSteps recordsFinally recordsAfter
+run-plain g limits [] x s = refl
+run-plain g limits (c ∷ cs) x s =
+    let m = meant (x .cores) c in
+    let next = recordsBy m (c .domain) (x .cores) in
+    run-plain g limits cs (coreStep g c x .lent) (step-standing g limits x s c)
+    ∙ ap (λ (r : Result). record { cache = finally g (plainSteps (r .lent .cores) cs) (r .lent .cache); cores = recordsFinally (r .lent .cores) cs })
+    (step-means g limits x s c)
+    ∙ ap (λ (t : State). record { cache = t; cores = recordsFinally next cs }) (finally-by g limits m (plainSteps next cs) (x .cache))

@@ -12,6 +12,7 @@ use Rattle.selectors.proofs.PlaceLaws.{put-record, place-meant, place-records}
 use Rattle.steps.specs.Tables.{Tables, lengths}
 use Rattle.cores.specs.Step.{Lent, Result, lentRefusal, coreStep}
 use Rattle.cores.specs.Calls.{resultOf, Turn, turnOf, turnIs}
+use Rattle.cores.specs.Statements.{TurnedStep, PlacedStep}
 use Rattle.cores.specs.declared.Turned.{Turned}
 
 module _ (g : Geometry) (c : Command) (x : Lent) where
@@ -25,10 +26,6 @@ module _ (g : Geometry) (c : Command) (x : Lent) where
       cases (eqb (lentRefusal g (lengths (x .cache .tables)) (length (x .cores))) 0)
       (λ t. rw (t, put-record (meant (x .cores) c) (c .domain) (x .cores)))
       (λ t. rw (t, set-getD (x .cores) (c .domain) noCore))
-
-  pub turned-step : (r : Turned) (t : Tables) → turnIs r t ≡ turnOf g c (length (x .cores)) (getD (x .cores) (c .domain) noCore) (x .cache)
-      → resultOf (r .stepped) t (set (x .cores) (c .domain) (r .core)) ≡ coreStep g c x
-  turned-step r t e = ap put e ∙ put-step
 
   -- The same of a list of 32 records, at the core's number modulo 32: a core that is not in the list leaves what stands there.
   module _ (long : length (x .cores) ≡ maxCores) where
@@ -46,7 +43,10 @@ module _ (g : Geometry) (c : Command) (x : Lent) where
         (λ t. rw (t, place-records (x .cores) long c, place-meant (x .cores) long c))
         (λ t. rw (t, set-getD (x .cores) place noCore)))
 
-    pub placed-step : {p : ℕ} (r : Turned) (t : Tables) → p ≡ place → turnIs r t ≡ turnOf g c maxCores (getD (x .cores) p noCore) (x .cache)
-        → resultOf (r .stepped) t (set (x .cores) p (r .core)) ≡ coreStep g c x
-    placed-step {p} r t here e =
-        rw here (ap putAt (e ∙ ap (λ (q : ℕ). turnOf g c maxCores (getD (x .cores) q noCore) (x .cache)) here) ∙ put-placed)
+pub turned-step : TurnedStep
+turned-step g c x r t e = ap (put g c x) e ∙ put-step g c x
+
+pub placed-step : PlacedStep
+placed-step g c x long p r t here e =
+    rw here
+    (ap (putAt g c x long) (e ∙ ap (λ (q : ℕ). turnOf g c maxCores (getD (x .cores) q noCore) (x .cache)) here) ∙ put-placed g c x long)

@@ -3,3 +3,4 @@ pub mod Step
 pub mod Run
 pub mod Calls
 pub mod Inside
+pub mod Statements

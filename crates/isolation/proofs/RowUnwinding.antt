@@ -83,20 +83,20 @@ module _ (g : Geometry) (l : Limited g) where
       pub own-access : (store : Bool) → (access R (policy d) tag store r .answer ≡ access R (policy d) tag store q .answer)
           × Alike g d policy (access R (policy d) tag store r .row) (access R (policy d) tag store q .row)
       own-access store = (
-        access-answer (rule g l) (l .most-ways) (policy d) (cut d) tag r q long-r long-q read store,
+        access-answer _ _ (rule g l) (l .most-ways) (policy d) (cut d) tag r q long-r long-q read store,
         record {
-          lines = λ w h u. access-agrees (rule g l) (l .most-ways) (policy d) (cut d) tag r q long-r long-q read store w h (a .lines w h u);
-          cells = λ x u. access-view (rule g l) (l .most-ways) (policy d) (cut d) tag r q long-r long-q read store x (a .cells x u);
+          lines = λ w h u. access-agrees _ _ (rule g l) (l .most-ways) (policy d) (cut d) tag r q long-r long-q read store w h (a .lines w h u);
+          cells = λ x u. access-view _ _ (rule g l) (l .most-ways) (policy d) (cut d) tag r q long-r long-q read store x (a .cells x u);
         },
       )
 
       pub own-flush : (flush (policy d) tag r .answer ≡ flush (policy d) tag q .answer)
           × Alike g d policy (flush (policy d) tag r .row) (flush (policy d) tag q .row)
       own-flush = (
-        flush-answer (rule g l) (l .most-ways) (policy d) (cut d) tag r q long-r long-q read
+        flush-answer _ _ (rule g l) (l .most-ways) (policy d) (cut d) tag r q long-r long-q read
             (λ t. view-same r q a .lines (hitWay r (policy d .hit) tag) (hit-own (r .tags) (r .valid) (policy d .hit) tag t) .dirty),
         record {
-          lines = λ w h u. flush-agrees (rule g l) (l .most-ways) (policy d) (cut d) tag r q long-r long-q read w h (a .lines w h u);
+          lines = λ w h u. flush-agrees _ _ (rule g l) (l .most-ways) (policy d) (cut d) tag r q long-r long-q read w h (a .lines w h u);
           cells = λ x u.
               ap (λ (y : ℕ). R .view y x) (flush-word (rule g l) (l .most-ways) (policy d) (cut d) tag r long-r) ∙ a .cells x u
               ∙ ap (λ (y : ℕ). R .view y x) (sym (flush-word (rule g l) (l .most-ways) (policy d) (cut d) tag q long-q));
@@ -106,13 +106,13 @@ module _ (g : Geometry) (l : Limited g) where
       -- a neighbour's, on one side
       pub other-access : (e : ℕ) → e < 16 → (e ≡ d → ⊥) → (store : Bool) → Alike g d policy (access R (policy e) tag store r .row) q
       other-access e k n store = record {
-        lines = λ w h u. line-trans (access-leaves (rule g l) (l .most-ways) (policy e) (cut e) tag r long-r store w h (u e k n)) (a .lines w h u);
-        cells = λ x u. access-stays (rule g l) (l .most-ways) (policy e) (cut e) tag r long-r store x (u e k n) ∙ a .cells x u;
+        lines = λ w h u. line-trans (access-leaves _ _ (rule g l) (l .most-ways) (policy e) (cut e) tag r long-r store w h (u e k n)) (a .lines w h u);
+        cells = λ x u. access-stays _ _ (rule g l) (l .most-ways) (policy e) (cut e) tag r long-r store x (u e k n) ∙ a .cells x u;
       }
 
       pub other-flush : (e : ℕ) → e < 16 → (e ≡ d → ⊥) → Alike g d policy (flush (policy e) tag r .row) q
       other-flush e k n = record {
-        lines = λ w h u. line-trans (flush-leaves (rule g l) (l .most-ways) (policy e) (cut e) tag r long-r w h (u e k n)) (a .lines w h u);
+        lines = λ w h u. line-trans (flush-leaves _ _ (rule g l) (l .most-ways) (policy e) (cut e) tag r long-r w h (u e k n)) (a .lines w h u);
         cells = λ x u. ap (λ (y : ℕ). R .view y x) (flush-word (rule g l) (l .most-ways) (policy e) (cut e) tag r long-r) ∙ a .cells x u;
       }
 
@@ -140,8 +140,8 @@ module _ (g : Geometry) (l : Limited g) where
           lines : (w : ℕ) → w < g .ways → Unheld d after w → SameLine (cleaned R (policy e) new r) (cleaned R (policy e) new q) w
           lines w h u =
               cases (moved (policy e) new w)
-              (λ t. clean-gone R (l .most-ways) (policy e) new r q w h t)
-              (λ t. clean-agrees R (l .most-ways) (policy e) new r q w h
+              (λ t. clean-gone _ R (l .most-ways) (policy e) new r q w h t)
+              (λ t. clean-agrees _ R (l .most-ways) (policy e) new r q w h
               (a .lines w h (unheld-before w (λ n. unmoved (bit (policy e .hit) w) (bit (new .hit) w) t (ap (λ (p : Maps). bit (p .hit) w) (sym changed)
               ∙ u e k n)) u)))
 
@@ -169,6 +169,6 @@ module _ (g : Geometry) (l : Limited g) where
 
         pub own-drops : (dropped (policy e) new r ≡ dropped (policy e) new q) × (droppedDirty (policy e) new r ≡ droppedDirty (policy e) new q)
         own-drops = (
-          drops-same R (l .most-ways) (policy e) new r q long-r long-q moved-line,
+          drops-same _ R (l .most-ways) (policy e) new r q long-r long-q moved-line,
           dirty-drops-same R (l .most-ways) (policy e) new r q long-r long-q moved-line,
         )

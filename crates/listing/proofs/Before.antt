@@ -13,6 +13,7 @@ use Rattle.cores.proofs.OtherLaws.{others-answers, others-finally}
 use Rattle.tracefile.specs.File.{stepCount, stepsOf}
 use Rattle.listing.specs.Listing.{listerCores, runLines, listing}
 use Rattle.listing.specs.Before.{linesBefore, listingBefore}
+use Rattle.listing.specs.Statements.{ListingBefore}
 
 lines-before : (g : Geometry) (cs : List Command) (n : ℕ) → coreless cs ≡ true → runLines g cs n ≡ linesBefore g cs n
 unfolding runLines linesBefore freshLent
@@ -20,6 +21,6 @@ lines-before g cs n none =
     let lent = freshLent g listerCores in
     rw (others-answers g cs lent none (lit≤ tt), others-finally g cs lent none (lit≤ tt))
 
-pub listing-before : (file : List ℕ) → coreless (stepsOf file) ≡ true → listing file ≡ listingBefore file
+pub listing-before : ListingBefore
 unfolding listing listingBefore
 listing-before file none = rw (lines-before (geometryOf file) (stepsOf file) (stepCount file) none)

@@ -300,7 +300,7 @@ module _ (g : Geometry) (limits : within g ≡ true) (d : ℕ) (low : d < 16) wh
 
       still : (w : ℕ) → bit (policy a d .hit) w ≡ true → (r : Row) → SameLine (cleaned R (policy a e) new r) r w
       still w t r =
-          clean-leaves R (l .most-ways) (policy a e) new r w (policy-cut (g .ways) (a .domains) d .within w t)
+          clean-leaves _ R (l .most-ways) (policy a e) new r w (policy-cut (g .ways) (a .domains) d .within w t)
           (unmoved g limits d low a (near .whole-a) apart e k other arg after w t)
 
       pub both-change : Near n (changePolicy g e arg a .state) (changePolicy g e arg b .state)

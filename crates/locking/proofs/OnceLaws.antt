@@ -139,7 +139,7 @@ module _ (R : Rule) (old new : Maps) (r : Row) where
 
   -- so what the row has then it had before
   cleaned-has : (hit t v : ℕ) → v < 16 → Has hit (cleaned R old new r) t v → Has hit r t v
-  cleaned-has hit t v low a = match-has (line-match (clean-leaves R (lit≤ tt) old new r v low (unmoved hit t v low a))) a
+  cleaned-has hit t v low a = match-has (line-match (clean-leaves _ R (lit≤ tt) old new r v low (unmoved hit t v low a))) a
 
   -- and what it has in the new hit map it had in the old one
   changed-has : (t v : ℕ) → v < 16 → Has (new .hit) (cleaned R old new r) t v → Has (old .hit) r t v
@@ -189,7 +189,7 @@ module _ (g : Geometry) (limits : within g ≡ true) where
       where
         left : (v : ℕ) → bit (policy d .hit) v ≡ true → SameLine (access R (policy e) tag store (row i) .row) (row i) v
         left v t =
-            access-leaves (rule g limits .isolates) (l .most-ways) (policy e) (policy-cut (g .ways) (s .domains) e) tag (row i) (long i h) store v
+            access-leaves _ _ (rule g limits .isolates) (l .most-ways) (policy e) (policy-cut (g .ways) (s .domains) e) tag (row i) (long i h) store v
             (in-ways d v t)
             (not-both (bit (policy d .hit) v) (bit (policy e .hit) v) (reached-separate g limits s reached .ways-apart d e low k n v) t)
 

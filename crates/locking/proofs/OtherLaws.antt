@@ -61,16 +61,16 @@ module _ (g : Geometry) (limits : within g ≡ true) (d : ℕ) (low : d < 16) (e
     other-view : (flushes store : Bool) → SameView R (policy d) (lineWork flushes R store (policy e) tag r .row) r
     other-view true store = record {
       lines = λ w t.
-          flush-leaves (rule g limits .isolates) (l .most-ways) (policy e) (cut e) tag r long w (cut d .within w t)
+          flush-leaves _ _ (rule g limits .isolates) (l .most-ways) (policy e) (cut e) tag r long w (cut d .within w t)
           (own-unheld g l d low policy cut apart w t e k n);
       own = λ x t. ap (λ (y : ℕ). R .view y x) (flush-word (rule g limits .isolates) (l .most-ways) (policy e) (cut e) tag r long);
     }
     other-view false store = record {
       lines = λ w t.
-          access-leaves (rule g limits .isolates) (l .most-ways) (policy e) (cut e) tag r long store w (cut d .within w t)
+          access-leaves _ _ (rule g limits .isolates) (l .most-ways) (policy e) (cut e) tag r long store w (cut d .within w t)
           (own-unheld g l d low policy cut apart w t e k n);
       own = λ x t.
-          access-stays (rule g limits .isolates) (l .most-ways) (policy e) (cut e) tag r long store x (own-unwritten g l d low policy cut apart x t e k n);
+          access-stays _ _ (rule g limits .isolates) (l .most-ways) (policy e) (cut e) tag r long store x (own-unwritten g l d low policy cut apart x t e k n);
     }
 
   -- the whole state

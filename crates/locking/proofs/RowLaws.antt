@@ -156,27 +156,27 @@ module _ {W : ℕ} {R : Rule} (laws : Laws W R) (few : W ≤ 16) (p : Maps) (c :
     pub own-access : (store : Bool)
         → (access R p tag store r .answer ≡ access R p tag store q .answer) × SameUnlocked R p (access R p tag store r .row) (access R p tag store q .row)
     own-access store = (
-      access-answer (laws .isolates) few p c tag r q long-r long-q read store,
+      access-answer _ _ (laws .isolates) few p c tag r q long-r long-q read store,
       made (access R p tag store r .row) (access R p tag store q .row)
-          (λ w t e. access-agrees (laws .isolates) few p c tag r q long-r long-q read store w (c .within w t) e)
+          (λ w t e. access-agrees _ _ (laws .isolates) few p c tag r q long-r long-q read store w (c .within w t) e)
           (λ w k. (
-            access-keeps (laws .isolates) few p c tag r long-r store w (c .within w (k .in-hit)) (k .out-fill),
-            access-keeps (laws .isolates) few p c tag q long-q store w (c .within w (k .in-hit)) (k .out-fill),
+            access-keeps _ _ (laws .isolates) few p c tag r long-r store w (c .within w (k .in-hit)) (k .out-fill),
+            access-keeps _ _ (laws .isolates) few p c tag q long-q store w (c .within w (k .in-hit)) (k .out-fill),
           ))
-          (λ x t. access-view (laws .isolates) few p c tag r q long-r long-q read store x (s .own x t)),
+          (λ x t. access-view _ _ (laws .isolates) few p c tag r q long-r long-q read store x (s .own x t)),
     )
 
     -- a flush that hits no locked line
     pub own-flush : (isHit r (p .hit) tag ≡ true → locked p r (hitWay r (p .hit) tag) ≡ false)
         → (flush p tag r .answer ≡ flush p tag q .answer) × SameUnlocked R p (flush p tag r .row) (flush p tag q .row)
     own-flush free = (
-      flush-answer (laws .isolates) few p c tag r q long-r long-q read
+      flush-answer _ _ (laws .isolates) few p c tag r q long-r long-q read
           (λ t. s .marks (hitWay r (p .hit) tag) (hit-own (r .tags) (r .valid) (p .hit) tag t) (free t)),
       made (flush p tag r .row) (flush p tag q .row)
-          (λ w t e. flush-agrees (laws .isolates) few p c tag r q long-r long-q read w (c .within w t) e)
+          (λ w t e. flush-agrees _ _ (laws .isolates) few p c tag r q long-r long-q read w (c .within w t) e)
           (λ w k. (
-            line-match (flush-spares (laws .isolates) few p c tag r long-r w (c .within w (k .in-hit)) (misses w k)),
-            line-match (flush-spares (laws .isolates) few p c tag q long-q w (c .within w (k .in-hit)) (misses-too w k)),
+            line-match (flush-spares _ _ (laws .isolates) few p c tag r long-r w (c .within w (k .in-hit)) (misses w k)),
+            line-match (flush-spares _ _ (laws .isolates) few p c tag q long-q w (c .within w (k .in-hit)) (misses-too w k)),
           ))
           (λ x t.
           ap (λ (y : ℕ). R .view y x) (flush-word (laws .isolates) few p c tag r long-r) ∙ s .own x t

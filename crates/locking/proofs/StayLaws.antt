@@ -147,10 +147,10 @@ module _ (g : Geometry) (limits : within g ≡ true) (d : ℕ) (low : d < 16) (s
         → hitWay (row i s) (policy d .hit) (tagOf g (c .argument)) ≡ w → ⊥)
         → SameMatch (lineWork flushes R store (policy d) (tagOf g (c .argument)) (row i s) .row) (row i s) w
     own-row true store n =
-        line-match (flush-spares (rule g limits .isolates) (l .most-ways) (policy d) (cut d) (tagOf g (c .argument)) (row i s)
+        line-match (flush-spares _ _ (rule g limits .isolates) (l .most-ways) (policy d) (cut d) (tagOf g (c .argument)) (row i s)
         (row-long g (whole .shaped) i inside) w (cut d .within w in-hit) (n refl))
     own-row false store n =
-        access-keeps (rule g limits .isolates) (l .most-ways) (policy d) (cut d) (tagOf g (c .argument)) (row i s)
+        access-keeps _ _ (rule g limits .isolates) (l .most-ways) (policy d) (cut d) (tagOf g (c .argument)) (row i s)
         (row-long g (whole .shaped) i inside) store w (cut d .within w in-hit) out-fill
 
     own-use : (flushes store : Bool) → (flushes ≡ true → setOf g (c .argument) ≡ i → isHit (row i s) (policy d .hit) (tagOf g (c .argument)) ≡ true
@@ -191,7 +191,7 @@ module _ (g : Geometry) (limits : within g ≡ true) (d : ℕ) (low : d < 16) (s
         cases (eqb (c .domain) d)
         (λ t. absurd (n (by-change (change-number g (c .domain) (c .argument) s) (eqb-true (c .domain) d t) is)))
         (λ t. rw (changed-row g (c .domain) k (c .argument) s whole i inside)
-        (line-match (clean-leaves R (l .most-ways) (policy (c .domain)) (asRead (g .ways) (newMaps (c .argument))) (row i s) w (cut d .within w in-hit)
+        (line-match (clean-leaves _ R (l .most-ways) (policy (c .domain)) (asRead (g .ways) (newMaps (c .argument))) (row i s) w (cut d .within w in-hit)
         (unmoved g limits d low s whole apart (c .domain) k (eqb-false (c .domain) d t) (c .argument) after w in-hit))))
 
     pub match-stays : (Takes (stepOn g c s) i w → ⊥) → SameMatch (row i (stepOn g c s .state)) (row i s) w

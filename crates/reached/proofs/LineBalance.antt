@@ -11,7 +11,8 @@ use Rattle.waymap.proofs.Booleans.{cases, not-both}
 use Rattle.replacement.specs.Rule.{Rule, ruleOf}
 use Rattle.row.specs.Row.{Row, Effect, linesIn}
 use Rattle.row.proofs.LineLaws.{access-leaves, flush-leaves}
-use Rattle.row.proofs.LinesLaws.{came, went, came-one, lines-same, access-lines, flush-lines}
+use Rattle.row.specs.Statements.{came, went}
+use Rattle.row.proofs.LinesLaws.{came-one, lines-same, access-lines, flush-lines}
 use Rattle.policy.specs.declared.Maps.{Maps}
 use Rattle.command.specs.declared.Answer.{Answer}
 use Rattle.command.specs.declared.Answer.the-variants.{Hit, Fill, Evict, Pass, Flush, Absent, Policy, Refused}
@@ -104,8 +105,8 @@ module _ (g : Geometry) (limits : within g ≡ true) (s : State) (kept : Kept g 
   row-leaves w h f = pick flushes
     where
       pick : (b : Bool) → bit (lineWork b R store (policy e) (tagOf g arg) row .row .valid) w ≡ bit (row .valid) w
-      pick true = flush-leaves (rule g l) (l .most-ways) (policy e) (policy-cut (g .ways) (s .domains) e) (tagOf g arg) row wide w h f .valid
-      pick false = access-leaves (rule g l) (l .most-ways) (policy e) (policy-cut (g .ways) (s .domains) e) (tagOf g arg) row wide store w h f .valid
+      pick true = flush-leaves _ _ (rule g l) (l .most-ways) (policy e) (policy-cut (g .ways) (s .domains) e) (tagOf g arg) row wide w h f .valid
+      pick false = access-leaves _ _ (rule g l) (l .most-ways) (policy e) (policy-cut (g .ways) (s .domains) e) (tagOf g arg) row wide store w h f .valid
 
   row-lines : linesIn (bit (policy e .hit)) row + came (x .answer) ≡ linesIn (bit (policy e .hit)) (x .row) + went (x .answer)
   row-lines = pick flushes
@@ -113,8 +114,8 @@ module _ (g : Geometry) (limits : within g ≡ true) (s : State) (kept : Kept g 
       pick : (b : Bool) → linesIn (bit (policy e .hit)) row + came (lineWork b R store (policy e) (tagOf g arg) row .answer)
           ≡ linesIn (bit (policy e .hit)) (lineWork b R store (policy e) (tagOf g arg) row .row)
           + went (lineWork b R store (policy e) (tagOf g arg) row .answer)
-      pick true = flush-lines (rule g l) (l .most-ways) (policy e) (policy-cut (g .ways) (s .domains) e) (tagOf g arg) row wide
-      pick false = access-lines (rule g l) (l .most-ways) (policy e) (policy-cut (g .ways) (s .domains) e) (tagOf g arg) row wide store
+      pick true = flush-lines _ _ (rule g l) (l .most-ways) (policy e) (policy-cut (g .ways) (s .domains) e) (tagOf g arg) row wide
+      pick false = access-lines _ _ (rule g l) (l .most-ways) (policy e) (policy-cut (g .ways) (s .domains) e) (tagOf g arg) row wide store
 
   -- of another domain's lines it changes none
   row-other : (d : ℕ) → d < 16 → (d ≡ e → ⊥) → linesIn (bit (policy d .hit)) (x .row) ≡ linesIn (bit (policy d .hit)) row

@@ -92,7 +92,7 @@ module _ (g : Geometry) (limits : within g ≡ true) (s : State) (kept : Kept g 
   held-own =
       total-sum (g .ways) (g .sets) (linesIn (bit (next .hit))) (dropped (policy e) next) (linesIn (bit (policy e .hit)))
       (after .tables) (s .tables) (s .tables)
-      (λ i h. rw (changed-row g e k arg s (kept .whole) i h) (clean-own R (l .most-ways) (policy e) next (row i) (wide i h) (gained i h)))
+      (λ i h. rw (changed-row g e k arg s (kept .whole) i h) (clean-own _ R (l .most-ways) (policy e) next (row i) (wide i h) (gained i h)))
 
   held-other : (d : ℕ) → d < 16 → (d ≡ e → ⊥) → held g d after ≡ held g d s
   unfolding held moved xor

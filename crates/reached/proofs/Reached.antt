@@ -33,6 +33,7 @@ use Rattle.steps.proofs.RunLaws.{run-lasts, fresh-kept, fresh-domain, line-kept
 use Rattle.reached.specs.Reached.{Reached, Separate}
 use Rattle.reached.specs.Balance.{held, Balanced}
 use Rattle.reached.specs.Inside.{Empty, FillsFit}
+use Rattle.reached.specs.Statements.{ReachedSeparate, ReachedEmpty, ReachedBalanced, ReachedUnspent, NumberSame}
 use Rattle.reached.proofs.SeparateLaws.{separate-after, fresh-separate}
 use Rattle.reached.proofs.LineBalance.{line-balanced, line-fills, line-empty}
 use Rattle.reached.proofs.PolicyBalance.{change-balanced, change-fills, change-empty}
@@ -138,27 +139,30 @@ module _ (g : Geometry) (limits : within g ≡ true) where
     pub reached-whole : Whole g s
     reached-whole = reached-kept .whole
 
-    -- no two domains share a way or a node
-    pub reached-separate : Separate g (policies (g .ways) (s .domains))
-    reached-separate = reached-sound .separate
+    -- the verdict on a change of policy goes by the policies alone
+    reached-number : (e : ℕ) → e < 16 → (arg : ℕ)
+        → changeNumber g e arg s ≡ cond (badArgument (g .ways) arg) 5 (sharingRefusal g (policies (g .ways) (s .domains)) e arg)
+    reached-number e k arg = number-is g s reached-whole (reached-sound .empty) e arg (reached-sound .balanced e k) (reached-sound .fills-fit e k)
 
-    -- every domain's lines in and lines out balance
-    pub reached-balanced : (d : ℕ) → d < 16 → Balanced g d s
-    reached-balanced = reached-sound .balanced
+-- no two domains share a way or a node
+pub reached-separate : ReachedSeparate
+reached-separate g limits s r = reached-sound g limits s r .separate
 
-    module _ (e : ℕ) (k : e < 16) (arg : ℕ) where
-      -- the verdict on a change of policy goes by the policies alone
-      reached-number : changeNumber g e arg s ≡ cond (badArgument (g .ways) arg) 5 (sharingRefusal g (policies (g .ways) (s .domains)) e arg)
-      reached-number = number-is g s reached-whole (reached-sound .empty) e arg (reached-sound .balanced e k) (reached-sound .fills-fit e k)
+-- a way that no domain holds has no line
+pub reached-empty : ReachedEmpty
+reached-empty g limits s r = reached-sound g limits s r .empty
 
-      -- and so is never number 7
-      pub reached-unspent : changeNumber g e arg s ≡ 7 → ⊥
-      reached-unspent q = not-seven g (policies (g .ways) (s .domains)) e arg (sym reached-number ∙ q)
+-- every domain's lines in and lines out balance
+pub reached-balanced : ReachedBalanced
+reached-balanced g limits s r = reached-sound g limits s r .balanced
 
-  -- So two states with the same policies give a change the same number, whatever either would drop.
-  pub number-same : (a b : State) → Reached g a → Reached g b → ((f : ℕ) → policies (g .ways) (a .domains) f ≡ policies (g .ways) (b .domains) f)
-      → (e : ℕ) → e < 16 → (arg : ℕ) → changeNumber g e arg a ≡ changeNumber g e arg b
-  number-same a b r q same e k arg =
-      reached-number a r e k arg
-      ∙ ap (λ (p : ℕ → Maps). cond (badArgument (g .ways) arg) 5 (sharingRefusal g p e arg)) (fun-ext same)
-      ∙ sym (reached-number b q e k arg)
+-- and so the verdict on a change of policy is never number 7
+pub reached-unspent : ReachedUnspent
+reached-unspent g limits s r e k arg q = not-seven g (policies (g .ways) (s .domains)) e arg (sym (reached-number g limits s r e k arg) ∙ q)
+
+-- So two states with the same policies give a change the same number, whatever either would drop.
+pub number-same : NumberSame
+number-same g limits a b r q same e k arg =
+    reached-number g limits a r e k arg
+    ∙ ap (λ (p : ℕ → Maps). cond (badArgument (g .ways) arg) 5 (sharingRefusal g p e arg)) (fun-ext same)
+    ∙ sym (reached-number g limits b q e k arg)

@@ -2,3 +2,4 @@
 pub mod Reached
 pub mod Balance
 pub mod Inside
+pub mod Statements

@@ -11,7 +11,7 @@ use lib.Seq.{sets, length-sets, drop-drop, take-take, length-take-le, getD-drop,
 use borrow.Author.Tests.{ltb-true, ltb-false}
 use Rattle.waymap.proofs.Booleans.{cases}
 use Rattle.endian.specs.Bytes.{value, digits, field, cut, sum, joined}
-use Rattle.runs.specs.Runs.{numbers, bytesOf}
+use Rattle.runs.specs.Runs.{Bytes, numbers, bytesOf}
 use Rattle.endian.proofs.DigitLaws.{digits-long, value-digits, sets-append}
 use Rattle.endian.proofs.CutLaws.{sets-all, part-in, cut-long, cut-part, cut-sets}
 
@@ -147,10 +147,6 @@ numbers-in n k o j size bytes h =
     ∙ numbers-front n k (size - j) (drop j (drop o bytes)) (omega arith) ∙ ap (numbers n k) (drop-drop j o bytes)
 
 -- ---- bytes and numbers give each other back
-
--- Each element is a byte.
-abbrev pub Bytes : List ℕ → Type 0
-Bytes xs = (i : ℕ) → getD xs i 0 < 256
 
 pub bytes-take : (n : ℕ) (xs : List ℕ) → Bytes xs → Bytes (take n xs)
 bytes-take n xs b i =

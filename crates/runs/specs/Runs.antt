@@ -1,11 +1,15 @@
 -- Tables of little-endian numbers in bytes, and runs of them at a place.
 use mathlib.Core.Bool.{cond}
 use mathlib.Core.List.{List, map}
-use Prim.Native.Nat.{ℕ, _-_, _*_}
+use Prim.Native.Nat.{ℕ, _-_, _*_, _<_}
 use lib.Dec.{leb}
-use lib.ListN.{length, drop, replicate}
+use lib.ListN.{length, getD, drop, replicate}
 use lib.Seq.{sets}
 use Rattle.endian.specs.Bytes.{value, digits, cut, joined}
+
+-- Each element is a byte.
+abbrev pub Bytes : List ℕ → Type 0
+Bytes xs = (i : ℕ) → getD xs i 0 < 256
 
 -- A table of k numbers, n bytes each; and its bytes.
 unfoldable pub numbers : ℕ → ℕ → List ℕ → List ℕ

@@ -14,7 +14,8 @@ use Rattle.isolation.specs.Lookups.{visitsOf, along, ownVisits, SameLookups}
 use Rattle.isolation.proofs.Lookups.{lookups}
 use Rattle.cores.specs.Step.{Lent, cacheBy, coreStep}
 use Rattle.cores.specs.Run.{freshLent}
-use Rattle.cores.proofs.RunLaws.{Standing, step-means, step-standing, run-plain}
+use Rattle.cores.specs.Statements.{Standing}
+use Rattle.cores.proofs.RunLaws.{step-means, step-standing, run-plain}
 use Rattle.switching.specs.Lookups.{alongBy, coreAlong, ownCoreVisits, CoreLookups}
 use Rattle.switching.proofs.Switching.{stands, meant-purged}
 

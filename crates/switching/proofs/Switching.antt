@@ -19,7 +19,8 @@ use Rattle.isolation.specs.StruckOut.{answersTo, ownAnswers, numberOf, verdicts
 use Rattle.isolation.proofs.Isolation.{isolation}
 use Rattle.cores.specs.Step.{Lent, answerBy, cacheBy, coreStep}
 use Rattle.cores.specs.Run.{coreAnswers, freshLent}
-use Rattle.cores.proofs.RunLaws.{Standing, fresh-standing, step-means, step-standing, run-plain}
+use Rattle.cores.specs.Statements.{Standing}
+use Rattle.cores.proofs.RunLaws.{fresh-standing, step-means, step-standing, run-plain}
 use Rattle.switching.specs.StruckOut.{coreAnswersTo, ownCoreAnswers, coreVerdicts, own, CoreStruckOut, Switching}
 
 module _ (g : Geometry) (limits : within g ≡ true) (p : Command → Bool) where

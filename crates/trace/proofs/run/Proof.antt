@@ -86,7 +86,7 @@ loop-again c =
     let tables = tablesOf (left .0) (left .1 .0) (left .1 .1 .0) (left .1 .1 .1 .0) in
     let cores = set (looped .cores) (step .domain % maxCores) (turned .result .core) in
     run-turned step (resultOf (turned .result .stepped) tables cores) (looped .inv) (asked .before .loop-test .taken) (asked .command-at .ensures)
-    (placed-step _ step _ (looped .inv .cores-long) (turned .result) tables refl (turned .ensures))
+    (placed-step _ step _ (looped .inv .cores-long) _ (turned .result) tables refl (turned .ensures))
     (λ j. record { tags = kept .1 .0 j; valid = kept .1 .1 .0 j; dirty = kept .1 .1 .1 .0 j; words = kept .1 .1 .1 .1 .0 j })
     (length-set (looped .cores) (step .domain % maxCores) (turned .result .core)) (answered .ensures .0) (answered .ensures .1)
 
