@@ -44,7 +44,6 @@ from-set (h ∷ hs) (f ∷ fs) (c ∷ cs) (suc d) x = ap (λ (xs : List Domain).
 
 -- ---- counts
 
--- The counts are numbers of 32 bits.
 pub seven-fit : (c : Counts) → CountsFit c → (i : ℕ) → getD (sevenOf c) i 0 < 256 ^ 4
 seven-fit c f zero = f .hits
 seven-fit c f (suc zero) = f .misses
