@@ -10,12 +10,11 @@ use Rattle.endian.specs.Bytes.{value, digits, field, cut, joined}
 use Rattle.runs.specs.Runs.{numbers, bytesOf, Bytes}
 use Rattle.endian.proofs.CutLaws.{join-cut, cut-long}
 use Rattle.runs.proofs.TableLaws.{bytes-take, bytes-drop, digits-value, bytes-numbers, numbers-long}
-use Rattle.geometry.specs.Named.{geometryOf}
 use Rattle.geometry.specs.declared.Geometry.{Geometry}
 use Rattle.domains.specs.Domains.{maxDomains}
 use Rattle.domains.specs.declared.Counts.{Counts}
 use Rattle.domains.specs.declared.Domain.{Domain}
-use Rattle.block.specs.Layout.{sizes, zerosIn, countsFrom, countsIn, domainsFrom, stateIn, headOf, countsBytes, stateBytes}
+use Rattle.block.specs.Layout.{sizes, countsFrom, countsIn, domainsFrom, stateIn, headOf, countsBytes, stateBytes}
 use Rattle.block.specs.Inside.{Blocked, contentsIn, contents}
 use Rattle.block.specs.Statements.{BlockAgain, HeadAgain}
 use Rattle.block.proofs.PartLaws.{part, size, start, part-is, part-long}

@@ -8,7 +8,6 @@ use lib.ListN.{length, getD}
 use borrow.Author.Tests.{eqb-true}
 use Rattle.waymap.proofs.Booleans.{cases}
 use Rattle.endian.specs.Bytes.{cut}
-use Rattle.runs.specs.Runs.{Bytes}
 use Rattle.geometry.specs.Named.{geometryOf}
 use Rattle.geometry.specs.declared.Geometry.{Geometry}
 use Rattle.steps.specs.Step.{step}

@@ -8,14 +8,13 @@ use Rattle.endian.specs.Bytes.{value, digits, field, cut, sum, joined}
 use Rattle.runs.specs.Runs.{numbers, bytesOf}
 use Rattle.endian.proofs.CutLaws.{cut-join, joined-long}
 use Rattle.runs.proofs.TableLaws.{numbers-bytes, bytes-long}
-use Rattle.geometry.specs.Named.{geometryOf}
 use Rattle.geometry.specs.declared.Geometry.{Geometry}
 use Rattle.domains.specs.Domains.{maxDomains, noDomain}
 use Rattle.domains.specs.declared.Counts.{Counts}
 use Rattle.domains.specs.declared.Domain.{Domain}
 use Rattle.steps.specs.Step.{State}
 use Rattle.steps.specs.Inside.{Whole}
-use Rattle.block.specs.Layout.{sizes, blockBytes, zerosIn, countsIn, domainsFrom, stateIn, stateOf, headOf, countsBytes, stateBytes, blockOf}
+use Rattle.block.specs.Layout.{sizes, countsIn, domainsFrom, stateIn, stateOf, headOf, countsBytes, stateBytes, blockOf}
 use Rattle.block.specs.Statements.{DomainFits, StateFits, StateAgain, BlockLong, GeometryAgain, ZerosAgain}
 use Rattle.block.proofs.DomainLaws.{counts-long, counts-back}
 

@@ -1,10 +1,7 @@
 -- The contract of `step` settles its whole answer.
-use mathlib.Core.Path.{_≡_, ap}
+use mathlib.Core.Path.{ap}
 use Rattle.command.proofs.AnswerLaws.{answer-injective}
-use Rattle.steps.specs.Tables.{Tables}
 use Rattle.steps.specs.Step.{Outcome}
-use Rattle.cache.specs.Calls.{outcome}
-use Rattle.cache.specs.declared.Stepped.{Stepped}
 use Rattle.cache.specs.Statements.{OutcomeInjective}
 
 pub outcome-injective : OutcomeInjective

@@ -1,9 +1,8 @@
 -- A step and its code: each gives the other.
 use mathlib.Core.Path.{_≡_, ap₂}
-use Prim.Native.Nat.{ℕ, _+_, _*_, _/_, _%_, _<_}
+use Prim.Native.Nat.{ℕ, _+_, _*_, _/_, _%_}
 use native.Mathlib.Omega.{arith}
-use Rattle.command.specs.declared.Command.{Command as Given}
-use Rattle.command.specs.Command.{commandIs, Command, commandOf, codeOf, argumentOf}
+use Rattle.command.specs.Command.{commandOf, codeOf}
 use Rattle.command.specs.Statements.{CodeOfCommand, CommandOfCode, CommandInjective}
 
 pub code-of-command : CodeOfCommand

@@ -1,21 +1,17 @@
 -- Steps that name no core: where at most 32 records are lent, they are the cache's, and leave the records.
-use mathlib.Core.Path.{_≡_, refl, ap}
-use mathlib.Core.Bool.{true, false}
+use mathlib.Core.Path.{refl, ap}
 use mathlib.Core.List.{List, [], _∷_}
-use Prim.Native.Nat.{ℕ, _≤_}
+use Prim.Native.Nat.{ℕ}
 use lib.Dec.{eqb}
 use lib.ListN.{length}
 use borrow.Author.Tests.{eqb-false, le-ltb}
 use Rattle.waymap.proofs.Booleans.{cases}
-use Rattle.command.specs.Command.{Command}
 use Rattle.geometry.specs.Geometry.{sizesOf}
-use Rattle.geometry.specs.declared.Geometry.{Geometry}
-use Rattle.selectors.specs.Selectors.{maxCores, namesCore, coreless, recordsBy}
+use Rattle.selectors.specs.Selectors.{maxCores, recordsBy}
 use Rattle.selectors.proofs.MeantLaws.{other-meant, coreless-next}
 use Rattle.steps.specs.Tables.{lengths}
-use Rattle.steps.specs.Step.{Outcome}
 use Rattle.steps.specs.Run.{stepOn, answersOf, finally}
-use Rattle.cores.specs.Step.{Lent, Result, answerBy, cacheBy, lentRefusal, coreStep}
+use Rattle.cores.specs.Step.{answerBy, cacheBy, lentRefusal, coreStep}
 use Rattle.cores.specs.Run.{coreAnswers, coreFinally}
 use Rattle.cores.specs.Statements.{beside, OtherStep, OthersAnswers, OthersFinally}
 use Rattle.cores.proofs.TurnLaws.{unsized-step}

@@ -8,14 +8,11 @@ use Rattle.command.specs.Answer.{answerOf}
 use Rattle.command.specs.declared.Answer.{Answer}
 use Rattle.command.specs.declared.Answer.the-variants.{Hit, Fill, Evict, Pass, Flush, Absent, Policy, Refused}
 use Rattle.command.proofs.AnswerLaws.{answer-injective}
-use Rattle.selectors.specs.declared.Core.{Core}
-use Rattle.steps.specs.Tables.{Tables}
 use Rattle.cores.specs.Step.{Result}
-use Rattle.cores.specs.Calls.{replyOf, resultOf, Turn, turnIs}
+use Rattle.cores.specs.Calls.{replyOf, Turn}
 use Rattle.cores.specs.declared.Reply.{Reply}
 use Rattle.cores.specs.declared.Reply.the-variants.{Cache, Select}
 use Rattle.cores.specs.declared.Stepped.{Stepped}
-use Rattle.cores.specs.declared.Turned.{Turned}
 use Rattle.cores.specs.Statements.{ResultInjective, TurnInjective}
 
 -- no answer of the cache has the word of a selector write

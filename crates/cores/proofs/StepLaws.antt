@@ -9,11 +9,10 @@ use Rattle.command.specs.Command.{Command}
 use Rattle.geometry.specs.declared.Geometry.{Geometry}
 use Rattle.selectors.specs.Selectors.{maxCores, noCore, meant, recordsAfter}
 use Rattle.selectors.proofs.PlaceLaws.{put-record, place-meant, place-records}
-use Rattle.steps.specs.Tables.{Tables, lengths}
+use Rattle.steps.specs.Tables.{lengths}
 use Rattle.cores.specs.Step.{Lent, Result, lentRefusal, coreStep}
-use Rattle.cores.specs.Calls.{resultOf, Turn, turnOf, turnIs}
+use Rattle.cores.specs.Calls.{Turn, turnOf}
 use Rattle.cores.specs.Statements.{TurnedStep, PlacedStep}
-use Rattle.cores.specs.declared.Turned.{Turned}
 
 module _ (g : Geometry) (c : Command) (x : Lent) where
   -- what a step of the named core's record gives, with the record put back: where the core is not in the list, no record changes

@@ -1,10 +1,8 @@
 -- The set and tag of an address.
 use mathlib.Core.Path.{_≡_}
-use Prim.Native.Nat.{ℕ, _/_, _<_}
+use Prim.Native.Nat.{ℕ, _/_}
 use native.Mathlib.Nat.{mod-lt, mod-zero, div-zero, lt-of-lt-of-le}
-use Rattle.geometry.specs.Geometry.{maxSets}
 use Rattle.geometry.specs.Address.{setOf, tagOf, placeOf}
-use Rattle.geometry.specs.Inside.{Limited}
 use Rattle.geometry.specs.declared.Geometry.{Geometry}
 use Rattle.geometry.specs.Statements.{SetBelow, SetMost}
 

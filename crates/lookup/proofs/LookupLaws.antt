@@ -1,7 +1,7 @@
 -- What a hit lookup says of the way that it hits, and of those that it visits.
 use mathlib.Core.Path.{_≡_, refl, sym, ap, ap₂, _∙_}
 use mathlib.Core.Bool.{true, false, _&&_, and-true}
-use mathlib.Core.List.{List, [], _∷_, _++_, List·Mem}
+use mathlib.Core.List.{List, [], _∷_, List·Mem}
 use Prim.Native.Nat.{ℕ, _≤_, _<_}
 use native.Mathlib.Omega.{arith}
 use lib.Dec.{eqb, leb, ltb}

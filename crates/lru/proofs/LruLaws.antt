@@ -6,7 +6,7 @@ use Prim.Native.Nat.{ℕ, _^_, _≤_, _<_}
 use native.Mathlib.Omega.{arith}
 use lib.Dec.{eqb, ltb}
 use borrow.Author.Tests.{eqb-true, eq-eqb, ne-eqb, lt-ltb, not-true}
-use Rattle.waymap.specs.Bits.{Bits, digit, any}
+use Rattle.waymap.specs.Bits.{Bits, digit}
 use Rattle.waymap.proofs.Booleans.{cases, or-none}
 use Rattle.waymap.proofs.BitLaws.{digit-lt}
 use Rattle.waymap.proofs.WayLaws.{any-found}

@@ -1,11 +1,11 @@
 -- The struck-out list where core records are lent: the steps of the cache that it means are those of the plain struck-out list, and it leaves the same records.
 use mathlib.Core.Path.{_≡_, refl, sym, ap, subst, _∙_}
-use mathlib.Core.Bool.{true, false, cond, true≢false}
+use mathlib.Core.Bool.{false, cond, true≢false}
 use mathlib.Core.List.{List, [], _∷_}
 use Prim.Native.Nat.{ℕ}
 use Rattle.waymap.proofs.Booleans.{cases}
 use Rattle.command.specs.Command.{Command}
-use Rattle.selectors.specs.Selectors.{coreless, Meant, plain, select, refused, meant, recordsBy, recordsAfter, recordsFinally, plainBy, plainSteps}
+use Rattle.selectors.specs.Selectors.{Meant, plain, select, refused, meant, recordsBy, recordsAfter, recordsFinally, plainBy, plainSteps}
 use Rattle.selectors.proofs.MeantLaws.{other-meant, coreless-next}
 use Rattle.selectors.specs.declared.Core.{Core}
 use Rattle.purge.specs.Purge.{purge, keepsBy, corePurge}

@@ -4,8 +4,7 @@ use mathlib.Core.Bool.{cond}
 use mathlib.Core.List.{List, [], _∷_}
 use Prim.Native.Nat.{ℕ}
 use lib.Dec.{eqb}
-use Rattle.replacement.specs.Calls.{answerOf, Result, result}
-use Rattle.replacement.specs.declared.Outcome.{Outcome}
+use Rattle.replacement.specs.Calls.{answerOf, Result}
 use Rattle.replacement.specs.declared.Reply.{Reply}
 use Rattle.replacement.specs.declared.Reply.the-variants.{Way, Done, OutsideLimits, OutOfReach, SharedNode}
 use Rattle.replacement.specs.Statements.{ReplyInjective, ResultInjective}

@@ -15,9 +15,8 @@ use Rattle.nru.specs.Nru as Nru
 use Rattle.nru.proofs.NruLaws as NruLaws
 use Rattle.lru.specs.Lru as Lru
 use Rattle.lru.proofs.LruLaws as LruLaws
-use Rattle.replacement.specs.Rule.{bit64, tree, nru, lru, ruleOf}
-use Rattle.replacement.specs.Isolates.{Isolates, SameOwn}
-use Rattle.replacement.specs.Laws.{Laws}
+use Rattle.replacement.specs.Rule.{bit64, nru, lru}
+use Rattle.replacement.specs.Isolates.{SameOwn}
 use Rattle.replacement.specs.Statements as Statements
 
 -- ---- the view of a 64-bit word

@@ -10,7 +10,7 @@ use Rattle.waymap.proofs.Booleans.{cases}
 use Rattle.waymap.specs.Ways.{isWays}
 use Rattle.policy.specs.Policy.{asRead}
 use Rattle.policy.specs.declared.Maps.{Maps}
-use Rattle.lookup.specs.Lookup.{matches, SameVisited, SameFound}
+use Rattle.lookup.specs.Lookup.{matches, SameFound}
 use Rattle.lookup.specs.Lookup as Lookup
 use Rattle.lookup.proofs.LookupLaws.{hit-below, miss-above, found-same, unread}
 use Rattle.command.specs.declared.Answer.the-variants.{Hit, Absent}

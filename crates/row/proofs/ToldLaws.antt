@@ -1,8 +1,7 @@
 -- Document 01's words tell any two effects apart.
-use mathlib.Core.Path.{_≡_, ap}
+use mathlib.Core.Path.{ap}
 use Rattle.command.proofs.AnswerLaws.{answer-injective}
-use Rattle.row.specs.Row.{Effect}
-use Rattle.row.specs.Calls.{Told, told}
+use Rattle.row.specs.Calls.{Told}
 use Rattle.row.specs.Statements.{ToldInjective}
 
 pub told-injective : ToldInjective

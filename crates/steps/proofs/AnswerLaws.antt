@@ -1,7 +1,7 @@
 -- What a step can answer.
 use mathlib.Core.Path.{_≡_, refl, sym, ap, _∙_}
 use mathlib.Core.Bool.{Bool, true, false, _&&_}
-use mathlib.Core.List.{List, [], _∷_}
+use mathlib.Core.List.{List}
 use Prim.Native.Nat.{ℕ, _*_, _≤_}
 use native.Mathlib.Nat.{le-trans, le-of-eq, mul-comm}
 use native.Mathlib.Omega.{arith}
@@ -19,17 +19,14 @@ use Rattle.policy.specs.declared.Maps.{Maps}
 use Rattle.sweep.specs.Clean.{moved, dropped, droppedDirty}
 use Rattle.command.specs.Answer.{answerOf}
 use Rattle.command.specs.declared.Answer.the-variants.{Refused}
-use Rattle.command.specs.Command.{Command}
 use Rattle.command.specs.Kind.{Kind, access, flush, policy, unknown, kindOf}
 use Rattle.domains.specs.Domains.{domainOf, policies}
 use Rattle.verdict.specs.Refusal.{refusal}
 use Rattle.geometry.specs.Geometry.{maxSets}
-use Rattle.geometry.specs.Inside.{Limited}
 use Rattle.geometry.specs.declared.Geometry.{Geometry}
 use Rattle.geometry.proofs.GeometryLaws.{rows-bound}
 use Rattle.steps.specs.Tables.{Tables, lengths, rowAt, total}
 use Rattle.steps.specs.Step.{State, Outcome, answers, onSet, rowEffect, useLine, droppedBy, changePolicy, dropsOf, stepBy, decided, step}
-use Rattle.steps.specs.Run.{stepOn}
 use Rattle.steps.specs.Statements.{changed, turned-down, PolicyWord, RefusedStays, NoRefusalZero, PolicyAnswer, DropsMost}
 use Rattle.steps.proofs.TotalLaws.{total-le}
 use Rattle.steps.proofs.DropLaws.{row-lines-most}

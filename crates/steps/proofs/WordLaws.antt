@@ -1,7 +1,6 @@
 -- What a rule keeps true of a word is true of every word in a run from a fresh cache.
 use mathlib.Core.Path.{_≡_, sym, subst}
 use mathlib.Core.Bool.{Bool, true, false}
-use mathlib.Core.List.{List}
 use Prim.Native.Nat.{ℕ, _<_}
 use lib.Dec.{eqb}
 use lib.ListN.{length, getD-replicate}
@@ -12,14 +11,12 @@ use Rattle.row.specs.Row as Row
 use Rattle.row.specs.Row.{Row, Effect, accessBy}
 use Rattle.sweep.specs.Clean.{cleaned}
 use Rattle.policy.specs.declared.Maps.{Maps}
-use Rattle.command.specs.Command.{Command}
 use Rattle.domains.specs.Domains.{policies}
 use Rattle.geometry.specs.Geometry.{within}
 use Rattle.geometry.specs.Address.{setOf, tagOf}
 use Rattle.geometry.specs.declared.Geometry.{Geometry}
 use Rattle.steps.specs.Tables.{rowAt}
 use Rattle.steps.specs.Step.{State, rowEffect, useLine, changePolicy}
-use Rattle.steps.specs.Run.{finally}
 use Rattle.steps.specs.Fresh.{freshTables, fresh}
 use Rattle.steps.specs.Inside.{changeNumber, lineWork}
 use Rattle.steps.proofs.StateLaws.{line-row, line-row-other, changed-row}

@@ -2,7 +2,7 @@
 use mathlib.Core.Path.{_≡_, refl}
 use mathlib.Core.Logic.{_⊎_, inl, inr}
 use mathlib.Core.List.{[], _∷_}
-use Prim.Native.Nat.{ℕ, _+_, _^_, _<_}
+use Prim.Native.Nat.{ℕ}
 use native.Mathlib.Nat.{mod-eq-of-lt}
 use native.Mathlib.Omega.{arith}
 use types.Run.{OneOf}
@@ -11,7 +11,6 @@ use Rattle.command.specs.declared.Answer.{Answer}
 use Rattle.command.specs.declared.Answer.the-variants.{Hit, Fill, Evict, Pass, Flush, Absent, Policy, Refused}
 use Rattle.command.proofs.Answer.{the-type}
 use Rattle.sweep.specs.Drops.{dropsIn, addedTo}
-use Rattle.sweep.specs.declared.Drops.{Drops}
 use Rattle.sweep.specs.Statements.{AddedFits}
 
 not-six : (n : ℕ) → n ≡ 6 → (n ≡ 0) ⊎ ((n ≡ 1) ⊎ ((n ≡ 2) ⊎ ((n ≡ 3) ⊎ ((n ≡ 4) ⊎ ((n ≡ 5) ⊎ (n ≡ 7)))))) → ⊥

@@ -1,6 +1,6 @@
 -- When a file is refused, and what one that is not has.
 use mathlib.Core.Path.{_≡_, ap, _∙_}
-use mathlib.Core.Bool.{Bool, true, cond, not}
+use mathlib.Core.Bool.{Bool, cond, not}
 use mathlib.Core.List.{List}
 use Prim.Native.Nat.{ℕ, _+_, _*_, _≤_, _<_}
 use native.Mathlib.Nat.{suc-ne-zero}
@@ -12,7 +12,7 @@ use Rattle.geometry.specs.Geometry.{within}
 use Rattle.geometry.specs.Named.{geometryOf}
 use Rattle.geometry.specs.declared.Geometry.{Geometry}
 use Rattle.tracefile.specs.File.{stepCount, maxSteps, maxFileSets, badFile, fileRefusal}
-use Rattle.tracefile.specs.Statements.{Accepted, FileAccepted}
+use Rattle.tracefile.specs.Statements.{FileAccepted}
 
 -- ---- the file's refusal
 

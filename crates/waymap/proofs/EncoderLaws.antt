@@ -4,10 +4,10 @@ use mathlib.Core.Bool.{Bool, true, false, cond, _||_, or-false, false≢true}
 use Prim.Native.Nat.{ℕ, zero, suc, _+_, _-_, _^_, _≤_, _<_}
 use native.Mathlib.Nat.{not-le-of-lt}
 use native.Mathlib.Omega.{arith}
-use lib.Dec.{eqb, ltb}
+use lib.Dec.{eqb}
 use lib.Count.{leadingZeros, leading-top}
 use borrow.Author.Tests.{eqb-true, eqb-false, lt-ltb, le-ltb}
-use Rattle.waymap.specs.Bits.{Bits, bit, any, lowest}
+use Rattle.waymap.specs.Bits.{Bits, bit, any}
 use Rattle.waymap.specs.Encoder.{encode}
 use Rattle.waymap.specs.Statements.{LeadingEncode, EncodeExt, EncodeFound, AnyEncode, EncodeWider, EncodeIs, EncodeEmpty}
 use Rattle.waymap.proofs.Booleans.{cases}
