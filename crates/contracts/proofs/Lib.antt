@@ -5,3 +5,5 @@ pub mod Sets
 pub mod Steps
 pub mod Lending
 pub mod Files
+pub mod Laws
+pub mod StateLaws
