@@ -1,5 +1,5 @@
--- Which number a step is turned down by, where several hold, and number 5 at its edges; of 8 and 9 see Sharing.antt. All on lent states, each worked out by hand from document
--- 01's "When a step is turned down": "The answer is the number alone and nothing else moves. If several hold, the lowest number is given."
+-- Which number a step is turned down by, where several hold, and number 5 at its edges; of 8 and 9 see Sharing.antt. All on lent states, each worked out by
+-- hand from document 01's "When a step is turned down": "The answer is the number alone and nothing else moves. If several hold, the lowest number is given."
 use mathlib.Core.List.{List, [], _∷_, _++_}
 use Prim.Native.Nat.{ℕ, _+_, _*_, _^_}
 use lib.ListN.{replicate}

@@ -1,5 +1,5 @@
--- That the flat statement speaks of the product: what it writes out anew is what the product has. Each is a closed statement; the theorem of each has its name in
--- small letters, stands in proofs/, and is of exactly that type.
+-- That the flat statement speaks of the product: what it writes out anew is what the product has. Each is a closed statement; the theorem of each has its
+-- name in small letters, stands in proofs/, and is of exactly that type.
 use mathlib.Core.Path.{_≡_}
 use mathlib.Core.Bool.{true}
 use mathlib.Core.List.{List}
