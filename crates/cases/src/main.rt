@@ -1,5 +1,5 @@
 // Cases A, J, K and L of document 01, case J as document 02's job 3 has it; runs under true LRU, which its job 1 makes rule 2; a cache of the most
-// lines that there may be, all of them dropped at once; and files of ours; and the file on standard input, which is one byte longer than the longest,
+// lines that there may be, all of them dropped at once; files of ours; and the file on standard input, which is one byte longer than the longest,
 // listed by the public call. Cases B to I and those of job 1 are shown of the rules themselves, in proofs/Worked.antt.
 use cache::Stepped;
 use command::Answer;
@@ -279,7 +279,7 @@ fn every_line() {
 }
 
 // Files of ours, beside the cases on lent states in specs/. 1 set, 2 ways, 16 steps: domain 0 takes both ways; kinds 4, 15, 17, 31, 36, 39, 41 and 255 are
-// unknown, and by domains 16 and 32 kinds 17 and 36 are 3; three selector writes are refused, for a selector of 16, for a fourth byte and for core 32; so
+// unknown; kinds 17 and 36 by domain 16, and 36 by domain 32, are 3; three selector writes are refused, for a selector of 16, for a fourth byte and for core 32; so
 // core 0 still loads for domain 0.
 fn kinds() {
     show(
