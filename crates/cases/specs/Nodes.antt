@@ -99,19 +99,16 @@ ofEight =
 
 abbrev ofSixteen : List Case
 ofSixteen =
-    -- one way: 0, 7, 8 and 15
+    -- one way: 0, 7 and 15
     of 16 0x0001 0 0 0 0
     ∷ of 16 0x0080 0 1042 7 7
-    ∷ of 16 0x0100 0 1 8 8
     ∷ of 16 0x8000 0 16453 15 15
-    -- pairs side by side: 7 and 8, 13 and 14
+    -- ways 7 and 8
     ∷ of 16 0x0180 1 1042 7 8
-    ∷ of 16 0x6000 64 8197 13 14
     -- pairs across the halves: 0 and 15, 4 and 11
     ∷ of 16 0x8001 1 16452 0 15
     ∷ of 16 0x0810 1 4130 4 11
-    -- the second quarter, and the last
-    ∷ of 16 0x00f0 1552 2 4 7
+    -- the last quarter
     ∷ of 16 0xf000 24640 5 12 15
     -- halves, and the eight in the middle
     ∷ of 16 0x00ff 1946 0 0 7

@@ -124,8 +124,6 @@ bySixteen =
     still (plru 1 16) (takes 0 0x8080 0x8080) (sixteen 0 (none ∷ with 0x0101 0x0101 ∷ [])) (refused 9)
     -- ways 4 and 6, and ways 5 and 7: node 4
     ∷ still (plru 1 16) (takes 0 0x00a0 0x00a0) (sixteen 0 (none ∷ with 0x0050 0x0050 ∷ [])) (refused 9)
-    -- ways 4 to 11, and the rest: node 0
-    ∷ still (plru 1 16) (takes 0 0xf00f 0xf00f) (sixteen 0 (none ∷ with 0x0ff0 0x0ff0 ∷ [])) (refused 9)
     -- halves stand side by side: of a word of fifteen ones the nodes of the upper half, 2, 5, 6 and 11 to 14, become zero
     ∷ after (plru 1 16) (takes 0 0xff00 0xff00)
     (sixteen 0x7fff (none ∷ with 0x00ff 0x00ff ∷ []))

@@ -42,27 +42,18 @@ touches =
       given = touched 16 0xffff 0 sixteen;
       printed = 139 ∷ 11 ∷ 259 ∷ 3 ∷ 529 ∷ 17 ∷ 1025 ∷ 1 ∷ 2084 ∷ 36 ∷ 4100 ∷ 4 ∷ 8256 ∷ 64 ∷ 16384 ∷ 0 ∷ [];
     }
-    ∷ record {
-      given = touched 16 0xffff 32767 (0 ∷ 3 ∷ 5 ∷ 6 ∷ 9 ∷ 10 ∷ 12 ∷ 15 ∷ []);
-      printed = 32767 ∷ 32503 ∷ 32253 ∷ 32749 ∷ 30718 ∷ 32734 ∷ 32762 ∷ 16314 ∷ [];
-    }
+    ∷ record { given = touched 16 0xffff 32767 (0 ∷ 6 ∷ 9 ∷ 15 ∷ []); printed = 32767 ∷ 32749 ∷ 30718 ∷ 16314 ∷ [] }
     -- "each free node": every other way of sixteen, with free nodes 0 to 6
-    ∷ record { given = touched 16 0x5555 0 (0 ∷ 6 ∷ 10 ∷ 12 ∷ []); printed = 11 ∷ 1 ∷ 4 ∷ 64 ∷ [] }
-    -- ways 0, 5, 10 and 15, with free nodes 0, 1 and 2, of zeros and of ones
-    ∷ record {
-      given = touched 16 0x8421 0 (0 ∷ 5 ∷ 10 ∷ 15 ∷ []) ++ touched 16 0x8421 32767 (0 ∷ 5 ∷ 10 ∷ 15 ∷ []);
-      printed = 3 ∷ 1 ∷ 4 ∷ 0 ∷ 32767 ∷ 32765 ∷ 32766 ∷ 32762 ∷ [];
-    }
+    ∷ record { given = touched 16 0x5555 0 (0 ∷ 12 ∷ []); printed = 11 ∷ 64 ∷ [] }
+    -- ways 0, 5, 10 and 15, with free nodes 0, 1 and 2: way 5 of zeros, way 10 of ones
+    ∷ record { given = touched 16 0x8421 0 (5 ∷ []) ++ touched 16 0x8421 32767 (10 ∷ []); printed = 1 ∷ 32766 ∷ [] }
     -- document 02, job 4: "turns no node on a touch outside the fill map", as of ways 1, 4, 11 and 14; and of any way where the map is empty
     ∷ record {
       given = touched 16 0x8421 0 (1 ∷ 4 ∷ 11 ∷ 14 ∷ []) ++ touched 16 0x8421 32767 (1 ∷ 4 ∷ 11 ∷ 14 ∷ []) ++ touched 16 0 21845 (0 ∷ 15 ∷ []);
       printed = 0 ∷ 0 ∷ 0 ∷ 0 ∷ 32767 ∷ 32767 ∷ 32767 ∷ 32767 ∷ 21845 ∷ 21845 ∷ [];
     }
     -- "no other bit moves": of the whole word, bits above the nodes
-    ∷ record {
-      given = tree 16 .touch 0xffff 15 0xffffffffffffffff ∷ tree 8 .touch 0xff 5 0xffffffffffffffff ∷ [];
-      printed = 0xffffffffffffbfba ∷ 0xffffffffffffffde ∷ [];
-    }
+    ∷ record { given = tree 8 .touch 0xff 5 0xffffffffffffffff ∷ []; printed = 0xffffffffffffffde ∷ [] }
     ∷ []
 
 -- "The victim is reached from the root by free nodes' bits and forced directions." The victims of evictions one after another: each word but the first is
@@ -87,20 +78,12 @@ runs =
     -- ways 2 to 5 of eight; and ways 0, 3 and 5, of which way 5 comes twice as often
     ∷ record { given = victims 8 0x3c (85 ∷ 116 ∷ 101 ∷ 68 ∷ 85 ∷ []); printed = 4 ∷ 3 ∷ 5 ∷ 2 ∷ 4 ∷ [] }
     ∷ record { given = victims 8 0x29 (0 ∷ 3 ∷ 2 ∷ 1 ∷ []); printed = 0 ∷ 5 ∷ 3 ∷ 5 ∷ [] }
-    -- the words on the way, by touches after evictions: at eight ways ways 4, 2 and 6; at sixteen ways 8, 12, 10 and 14; of ways 4 to 11 ways 7 and 9
+    -- the words on the way, by touches after evictions: at eight ways ways 4, 2 and 6; at sixteen way 12, and of ways 4 to 11 way 7
     ∷ record {
       given = touched 8 255 11 (4 ∷ []) ++ touched 8 255 46 (2 ∷ []) ++ touched 8 255 61 (6 ∷ []);
       printed = 46 ∷ 61 ∷ 120 ∷ [];
     }
-    ∷ record {
-      given = touched 16 0xffff 139 (8 ∷ [])
-          ++ touched 16 0xffff 2749 (12 ∷ [])
-          ++ touched 16 0xffff 11251 (10 ∷ [])
-          ++ touched 16 0xffff 16325 (14 ∷ [])
-          ++ touched 16 0x0ff0 28638 (7 ∷ [])
-          ++ touched 16 0x0ff0 27599 (9 ∷ []);
-      printed = 2222 ∷ 11000 ∷ 15318 ∷ 32640 ∷ 27599 ∷ 25582 ∷ [];
-    }
+    ∷ record { given = touched 16 0xffff 2749 (12 ∷ []) ++ touched 16 0x0ff0 28638 (7 ∷ []); printed = 11000 ∷ 27599 ∷ [] }
     ∷ []
 
 -- Sixteen ways that are full, line n in way n - 1, and then as steps: the word and the domain.
@@ -116,17 +99,6 @@ steps =
     (full 139 (domain 65535 65535 1 2 3 4 5 6 7))
     (evict 8 9 0)
     (row (1 ∷ 2 ∷ 3 ∷ 4 ∷ 5 ∷ 6 ∷ 7 ∷ 8 ∷ 99 ∷ 10 ∷ 11 ∷ 12 ∷ 13 ∷ 14 ∷ 15 ∷ 16 ∷ []) 65535 256 2222 (domain 65535 65535 1 3 4 4 5 7 7 ∷ []))
-    -- the one after goes left at node 0, right at node 1 and left at nodes 4 and 9, to way 4; nodes 0, 4 and 9 turn right, and node 1 left:
-    -- 2222 + 1 - 2 + 16 + 512
-    ∷ after (plru 1 16) (loads 0 (line 98))
-    (full 2222 (domain 65535 65535 1 2 3 4 5 6 7))
-    (evict 4 5 0)
-    (row (1 ∷ 2 ∷ 3 ∷ 4 ∷ 98 ∷ 6 ∷ 7 ∷ 8 ∷ 9 ∷ 10 ∷ 11 ∷ 12 ∷ 13 ∷ 14 ∷ 15 ∷ 16 ∷ []) 65535 0 2749 (domain 65535 65535 1 3 4 4 5 7 7 ∷ []))
-    -- a hit in way 15 of a word of ones turns nodes 0, 2, 6 and 14 left
-    ∷ after (plru 1 16) (stores 0 (line 16))
-    (full 32767 (domain 65535 65535 1 2 3 4 5 6 7))
-    (hit 15)
-    (row (1 ∷ 2 ∷ 3 ∷ 4 ∷ 5 ∷ 6 ∷ 7 ∷ 8 ∷ 9 ∷ 10 ∷ 11 ∷ 12 ∷ 13 ∷ 14 ∷ 15 ∷ 16 ∷ []) 65535 32768 16314 (domain 65535 65535 2 2 3 4 5 6 7 ∷ []))
     ∷ []
 
 unfoldable pub trees : List Case

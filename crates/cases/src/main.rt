@@ -278,10 +278,12 @@ fn every_line() {
     put_answer(calls(&mut tags, &mut valid, &mut dirty, &mut words));
 }
 
-// Files of ours, beside the cases on lent states in specs/. 1 set, 2 ways, 16 steps: domain 0 takes both ways; kinds 4, 15, 17, 31, 36, 39, 41 and 255 are
-// unknown; kinds 17 and 36 by domain 16, and 36 by domain 32, are 3; three selector writes are refused, for a selector of 16, for a fourth byte and for core 32; so
-// core 0 still loads for domain 0.
-fn kinds() {
+// Files of ours, beside the cases on lent states in specs/. 1 set, 2 ways, 16 steps: domain 0 takes both ways; kinds 4, 15, 17, 31, 36, 39, 41 and
+// 255 are unknown; kinds 17 and 36 by domain 16, and 36 by domain 32, are 3; three selector writes are refused, for a selector of 16, for a fourth
+// byte and for core 32; so core 0 still loads for domain 0.
+// Then 4 ways. Under rule 0, 7 steps: beside maps 5 and 5, maps 7 and 7 are 8, which comes before 9, and maps 10 and 10 are 9; beside hit map 5 with
+// fill map 1 these stand. Arguments 2^32 and 2^63 + 0x30003 are 5. Under rule 1, 2 steps: maps 5 and 10 stand.
+fn numbers() {
     show(
         b"\x01\0\x02\0\x10\0\0\0\
           \0\x10\0\x04\0\x0f\0\x11\0\x1f\0\x24\0\x27\0\x29\0\xff\x10\x11\x10\x24\x20\x24\
@@ -292,11 +294,6 @@ fn kinds() {
           \x10\0\0\0\0\0\0\0\0\0\0\x01\0\0\0\0\0\0\0\0\0\0\0\0\0\0\0\0\0\0\0\0",
         true,
     );
-}
-
-// 1 set, 4 ways. Under rule 0, 7 steps: beside maps 5 and 5, maps 7 and 7 are 8, which comes before 9, and maps 10 and 10 are 9; beside hit map 5
-// with fill map 1 these stand. Arguments 2^32 and 2^63 + 0x30003 are 5. Under rule 1, 2 steps: maps 5 and 10 stand.
-fn sharing() {
     show(
         b"\x01\0\x04\0\x07\0\0\0\
           \x01\x10\0\x10\0\x10\x01\x10\0\x10\0\x10\0\x10\
@@ -314,7 +311,9 @@ fn sharing() {
 
 // 1 set, 4 ways, 9 steps: domain 0 takes all ways, stores to line 0 and loads lines 1 to 3, and leaves ways 2 and 3 out of its fill map. Line 0 is
 // flushed from way 3 and line 1 hit in way 2, both locked; line 4 evicts line 2 from way 1, though way 3 is empty.
-fn locked() {
+// Then 16 ways, 20 steps: domain 0 takes all ways and loads lines 0 to 15, so that each node points right; a hit in way 15 turns nodes 0, 2, 6 and 14
+// left. The next evictions take way 7, by nodes 0, 1, 4 and 10, and way 11, by nodes 0, 2, 5 and 12.
+fn lines() {
     show(
         b"\x01\0\x04\0\x09\0\0\0\
           \0\x10\0\x02\0\x01\0\x01\0\x01\0\x10\0\x03\0\x01\0\x01\
@@ -323,11 +322,6 @@ fn locked() {
           \0\x01\0\0\0\0\0\0",
         true,
     );
-}
-
-// 1 set, 16 ways, 20 steps: domain 0 takes all ways and loads lines 0 to 15, so that each node points right; a hit in way 15 turns nodes 0, 2, 6 and
-// 14 left. The next evictions take way 7, by nodes 0, 1, 4 and 10, and way 11, by nodes 0, 2, 5 and 12.
-fn sixteen_ways() {
     show(
         b"\x01\0\x10\0\x14\0\0\0\
           \0\x10\0\x01\0\x01\0\x01\0\x01\0\x01\0\x01\0\x01\0\x01\0\x01\0\x01\0\x01\
@@ -360,14 +354,10 @@ fn main() {
     case_l();
     io::write_all(STDOUT_FILENO, b"true LRU\n");
     true_lru();
-    io::write_all(STDOUT_FILENO, b"kinds\n");
-    kinds();
-    io::write_all(STDOUT_FILENO, b"numbers 5, 8 and 9\n");
-    sharing();
-    io::write_all(STDOUT_FILENO, b"locked lines\n");
-    locked();
-    io::write_all(STDOUT_FILENO, b"sixteen ways\n");
-    sixteen_ways();
+    io::write_all(STDOUT_FILENO, b"kinds, and numbers 5, 8 and 9\n");
+    numbers();
+    io::write_all(STDOUT_FILENO, b"locked lines, and sixteen ways\n");
+    lines();
     io::write_all(STDOUT_FILENO, b"every line dropped\n");
     every_line();
     io::write_all(STDOUT_FILENO, b"one byte more than the longest\n");
