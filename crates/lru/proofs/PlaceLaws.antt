@@ -115,12 +115,6 @@ module _ (W : ℕ) (small : W ≤ 16) where
       each-formed W (wordOf o) (rw (places-word W o (each-sixteen o e) (each-long W o e)) e)
       (word-high W o (each-sixteen o e) (omega (arith, each-long W o e)))
 
-  -- a word that is not malformed does not become so
-  pub written-formed : (x : ℕ) (o : Order) → Each W o → malformed W x ≡ false → malformed W (written W x o) ≡ false
-  unfolding written
-  written-formed x o e formed =
-      cases (eqb (wordOf o) (wordOf (order W x))) (λ t. rw t formed) (λ t. rw t (word-formed o e))
-
 -- a written order is read as that order
 pub order-word : OrderWord
 unfolding order
@@ -137,3 +131,10 @@ order-written W small x o e =
     let read : order W (wordOf o) ≡ o = order-word W small o e in
     rw t cc)
     (λ t. rw t (order-word W small o e))
+
+-- a word that is not malformed does not become so
+module _ (W : ℕ) (small : W ≤ 16) where
+  pub written-formed : (x : ℕ) (o : Order) → Each W o → malformed W x ≡ false → malformed W (written W x o) ≡ false
+  unfolding written
+  written-formed x o e formed =
+      cases (eqb (wordOf o) (wordOf (order W x))) (λ t. rw t formed) (λ t. rw t (word-formed W small o e))

@@ -26,15 +26,6 @@ module _ (d : ℕ) where
   purge-by (select core) xs = refl
   purge-by (refused n) xs = refl
 
-  pub purge-records : (cs : List Command) (cores : List Core) → recordsFinally cores (corePurge d cores cs) ≡ recordsFinally cores cs
-  unfolding recordsFinally corePurge recordsAfter
-  purge-records [] cores = refl
-  purge-records (c ∷ cs) cores =
-      let m = meant cores c in
-      cases (keepsBy d m)
-      (λ t. rw t (purge-records cs (recordsBy m (c .domain) cores)))
-      (λ t. rw (t, struck-records m (c .domain) cores t) (purge-records cs cores))
-
 -- To strike out and to translate commute: selector writes are kept, so that both lists go by the same records.
 pub purge-plain : PurgePlain
 unfolding plainSteps corePurge recordsAfter purge
@@ -46,6 +37,15 @@ purge-plain d (c ∷ cs) cores =
     (λ t. rw t (ap (plainBy m) (purge-plain d cs next) ∙ sym (purge-by d m (plainSteps next cs) ∙ rw t)))
     (λ t. rw t (subst (λ (rs : List Core). plainSteps cores (corePurge d rs cs) ≡ purge d (plainSteps rs cs)) (sym (struck-records d m (c .domain) cores t))
     (purge-plain d cs cores) ∙ sym (purge-by d m (plainSteps next cs) ∙ rw t)))
+
+pub purge-records : (d : ℕ) (cs : List Command) (cores : List Core) → recordsFinally cores (corePurge d cores cs) ≡ recordsFinally cores cs
+unfolding recordsFinally corePurge recordsAfter
+purge-records d [] cores = refl
+purge-records d (c ∷ cs) cores =
+    let m = meant cores c in
+    cases (keepsBy d m)
+    (λ t. rw t (purge-records d cs (recordsBy m (c .domain) cores)))
+    (λ t. rw (t, struck-records d m (c .domain) cores t) (purge-records d cs cores))
 
 -- A list of which no step names a core has the struck-out list that it had.
 pub purge-others : PurgeOthers
