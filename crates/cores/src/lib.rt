@@ -176,7 +176,8 @@ pub fn step(
         ds: 0,
         es: 0,
     };
-    if named < count {
+    let inside = named < count;
+    if inside {
         core = cores[named];
     }
     let turned = turn(
@@ -192,7 +193,7 @@ pub fn step(
         kind,
         argument,
     );
-    if named < count {
+    if inside {
         cores[named] = turned.core;
     }
     turned.stepped

@@ -150,9 +150,9 @@ IsStepped r = Is S.the-row r (stepped-val r ∷ [])
 none-is : IsCore noCore
 none-is = LL.owes R.the-type R′.the-laws noCore ((refl, lit< tt), ((refl, lit< tt), ((refl, lit< tt), tt)))
 
--- where local i of the 28 stands, behind n entries that are no local's
+-- where local i of the 29 stands, behind n entries that are no local's
 abbrev _behind_ : ℕ → ℕ → ℕ
-i behind n = n + 2 * (27 - i)
+i behind n = n + 2 * (28 - i)
 
 infix 40 _behind_
 module _ {M : Type 1} (𝓤 : URA M) (H : Heap 𝓤) (A : Atoms 𝓤) (W : Given 𝓤 H A) (mem : Memory → SProp 𝓤) (run : Routine → Fun 𝓤)
@@ -402,9 +402,13 @@ module _ {M : Type 1} (𝓤 : URA M) (H : Heap 𝓤) (A : Atoms 𝓤) (W : Given
             ∷ the-value (domains-val domains) ∷ the-value (slice cores) ∷ the-value (vint w64 i) ∷ the-value (vint w8 kind) ∷ the-value (vint w64 argument)
             ∷ others
 
-        -- the count, the record, what `turn` gave, and how the test came out
+        -- whether the core is in the list
+        abbrev is-inside : Val
+        is-inside = vbool (ltb i (length ys))
+
+        -- the count, the record, that test, what `turn` gave, and the test's copy
         abbrev known-of : Stands → List Stands → List Stands
-        known-of turned others = the-value (vint w64 (length ys)) ∷ the-value (core-val core) ∷ turned ∷ the-value (vbool (ltb i (length ys))) ∷ others
+        known-of turned others = the-value (vint w64 (length ys)) ∷ the-value (core-val core) ∷ the-value is-inside ∷ turned ∷ the-value is-inside ∷ others
 
         -- the tables as they were lent on, behind three locals that are free again
         abbrev lent-on : List Stands
@@ -418,9 +422,9 @@ module _ {M : Type 1} (𝓤 : URA M) (H : Heap 𝓤) (A : Atoms 𝓤) (W : Given
 
         -- the end: the answer becomes the result, and the locals go
         leaves : (r : Turned) (ws : Ends) (zs : List Core) → Said r ws → set ys i (r .core) ≡ zs → length zs ≡ length ys → IsStepped (r .stepped)
-            → From (both ws zs) (known-of (the-value (turned-val r)) lent-on) parts.t-16
+            → From (both ws zs) (known-of (the-value (turned-val r)) lent-on) parts.t-17
         leaves r ws zs said put long stepped-is =
-            sets ! (of-opd ! (read-field ! (13 behind 5) refl refl refl)) (0 behind 5) refl
+            sets ! (of-opd ! (read-field ! (14 behind 5) refl refl refl)) (0 behind 5) refl
             (LL.lawful S.the-type S′.the-laws 𝓤 H A W .typed (r .stepped) _ stepped-is .0) $
             returns ! (look ! (0 behind 5) refl) $ group ! 5 $
             frees-all ! parts.locals bs (stand (the-value (stepped-val (r .stepped))) (known-of (the-value (turned-val r)) lent-on)) $
@@ -428,46 +432,46 @@ module _ {M : Type 1} (𝓤 : URA M) (H : Heap 𝓤) (A : Atoms 𝓤) (W : Given
 
         -- the test again: where the core is in the list, what `turn` made of its record is stored
         stores : (r : Turned) (ws : Ends) → Said r ws → IsStepped (r .stepped) → IsCore (r .core)
-            → From (both ws ys) (known-of (the-value (turned-val r)) lent-on) parts.t-14
+            → From (both ws ys) (known-of (the-value (turned-val r)) lent-on) parts.t-15
         stores r ws said stepped-is core-is =
-            assigns ! (bin ! (read ! (8 behind 5) refl) (read ! (11 behind 5) refl) tt) (from ! (stop !)) (store ! (14 behind 5) refl (tt, tt)) $ first ! $
-            branches ! (read ! (14 behind 5) refl) (λ inside. let within = ltb→lt i (length ys) inside in
-            sets ! (bin ! (read ! (8 behind 5) refl) (lit ! tt) (place-fits within)) (26 behind 5) refl (tt, place-fits within) $
-            sets ! (bin ! (read-field ! (7 behind 5) refl refl refl) (read ! (26 behind 5) refl) tt) (27 behind 5) refl (tt, tt) $
-            holds ! (27 behind 5) place-lies refl $ opens-slice ! tt R.the-row ys b o $
+            assigns ! (of-opd ! (read ! (13 behind 5) refl)) (from ! (stop !)) (store ! (15 behind 5) refl (tt, tt)) $ first ! $
+            branches ! (read ! (15 behind 5) refl) (λ inside. let within = ltb→lt i (length ys) inside in
+            sets ! (bin ! (read ! (8 behind 5) refl) (lit ! tt) (place-fits within)) (27 behind 5) refl (tt, place-fits within) $
+            sets ! (bin ! (read-field ! (7 behind 5) refl refl refl) (read ! (27 behind 5) refl) tt) (28 behind 5) refl (tt, tt) $
+            holds ! (28 behind 5) place-lies refl $ opens-slice ! tt R.the-row ys b o $
             elem-out ! R.the-row (Is R.the-row) (shows 𝓤 H A R.the-row) (LL.vals R.the-type R′.the-laws) (LL.tells R.the-type R′.the-laws)
             fullShare ys i noCore b o within (λ _.
             -- [the record's cell and own; the rest of the row; the opened borrow; both halves of its name; the tokens; the last tables; the locals]
-            assigns-last ! (of-opd ! (read-field ! (13 behind 8) refl refl refl)) (from ! (hop ! (look ! (27 behind 8) refl) (stop !)))
+            assigns-last ! (of-opd ! (read-field ! (14 behind 8) refl refl refl)) (from ! (hop ! (look ! (28 behind 8) refl) (stop !)))
             (store-raw ! 0 refl (core-typed (r .core) core-is)) $
-            exec ! C Λ E parts.t-16 (atRet E Post) $ move ! (1 ∷ []) $ drop ! $
+            exec ! C Λ E parts.t-17 (atRet E Post) $ move ! (1 ∷ []) $ drop ! $
             owned ! R.the-row (Is R.the-row) (LL.makes R.the-type R′.the-plain 𝓤 H A) (r .core) _ core-is $ move ! (1 ∷ 0 ∷ []) $
             elem-put ! R.the-row fullShare ys i (r .core) (core-val (r .core) ∷ []) b o within $
-            closes-slice ! tt R.the-row ys (set ys i (r .core)) (length-set ys i (r .core)) b o $ forget ! (27 behind 5) refl $ forget ! (26 behind 5) refl $
+            closes-slice ! tt R.the-row ys (set ys i (r .core)) (length-set ys i (r .core)) b o $ forget ! (28 behind 5) refl $ forget ! (27 behind 5) refl $
             leaves r ws (set ys i (r .core)) said refl (length-set ys i (r .core)) stepped-is))
             -- where it is not, nothing is
-            (λ outside. skips ! $ exec ! C Λ E parts.t-16 (atRet E Post) $
+            (λ outside. skips ! $ exec ! C Λ E parts.t-17 (atRet E Post) $
             leaves r ws ys said (set-out ys i (r .core) (nltb→le i (length ys) outside)) refl stepped-is)
 
         -- each table is lent on, and `turn` is called
-        calls : IsCore core → From on-hand (known-of nothing-yet []) parts.t-5
+        calls : IsCore core → From on-hand (known-of nothing-yet []) parts.t-6
         calls core-is =
-            sets ! (addr ! (from ! (fld ! refl (hop ! (look-in ! (2 behind 4) (sub ! 0 refl (whole !))) (stop !))))) (18 behind 4) refl (tt, tt) $
-            sets ! (agg ! (and-then ! (read ! (18 behind 4) refl) (and-then ! (read-field ! (2 behind 4) refl refl refl) (no-more !)))) (19 behind 4) refl
+            sets ! (addr ! (from ! (fld ! refl (hop ! (look-in ! (2 behind 4) (sub ! 0 refl (whole !))) (stop !))))) (19 behind 4) refl (tt, tt) $
+            sets ! (agg ! (and-then ! (read ! (19 behind 4) refl) (and-then ! (read-field ! (2 behind 4) refl refl refl) (no-more !)))) (20 behind 4) refl
             (tt, (tt, (record { fits = are .1 .0 .0 .1 .0 }, tt))) $
-            sets ! (addr ! (from ! (fld ! refl (hop ! (look-in ! (3 behind 4) (sub ! 0 refl (whole !))) (stop !))))) (20 behind 4) refl (tt, tt) $
-            sets ! (agg ! (and-then ! (read ! (20 behind 4) refl) (and-then ! (read-field ! (3 behind 4) refl refl refl) (no-more !)))) (21 behind 4) refl
+            sets ! (addr ! (from ! (fld ! refl (hop ! (look-in ! (3 behind 4) (sub ! 0 refl (whole !))) (stop !))))) (21 behind 4) refl (tt, tt) $
+            sets ! (agg ! (and-then ! (read ! (21 behind 4) refl) (and-then ! (read-field ! (3 behind 4) refl refl refl) (no-more !)))) (22 behind 4) refl
             (tt, (tt, (record { fits = are .1 .1 .0 .0 .1 .0 }, tt))) $
-            sets ! (addr ! (from ! (fld ! refl (hop ! (look-in ! (4 behind 4) (sub ! 0 refl (whole !))) (stop !))))) (22 behind 4) refl (tt, tt) $
-            sets ! (agg ! (and-then ! (read ! (22 behind 4) refl) (and-then ! (read-field ! (4 behind 4) refl refl refl) (no-more !)))) (23 behind 4) refl
+            sets ! (addr ! (from ! (fld ! refl (hop ! (look-in ! (4 behind 4) (sub ! 0 refl (whole !))) (stop !))))) (23 behind 4) refl (tt, tt) $
+            sets ! (agg ! (and-then ! (read ! (23 behind 4) refl) (and-then ! (read-field ! (4 behind 4) refl refl refl) (no-more !)))) (24 behind 4) refl
             (tt, (tt, (record { fits = are .1 .1 .1 .0 .0 .1 .0 }, tt))) $
-            sets ! (addr ! (from ! (fld ! refl (hop ! (look-in ! (5 behind 4) (sub ! 0 refl (whole !))) (stop !))))) (24 behind 4) refl (tt, tt) $
-            sets ! (agg ! (and-then ! (read ! (24 behind 4) refl) (and-then ! (read-field ! (5 behind 4) refl refl refl) (no-more !)))) (25 behind 4) refl
+            sets ! (addr ! (from ! (fld ! refl (hop ! (look-in ! (5 behind 4) (sub ! 0 refl (whole !))) (stop !))))) (25 behind 4) refl (tt, tt) $
+            sets ! (agg ! (and-then ! (read ! (25 behind 4) refl) (and-then ! (read-field ! (5 behind 4) refl refl refl) (no-more !)))) (26 behind 4) refl
             (tt, (tt, (record { fits = are .1 .1 .1 .1 .0 .0 .1 .0 }, tt))) $
             move ! (3 ∷ []) $ use1 W (raw (Turns 𝓤 H A mem run .pre to-turn)) (asks core-is) $
             calls-at ! fm (Turns 𝓤 H A mem run) known to-turn
-            (and-then ! (read ! (1 behind 4) refl) (and-then ! (read ! (19 behind 4) refl) (and-then ! (read ! (21 behind 4) refl)
-            (and-then ! (read ! (23 behind 4) refl) (and-then ! (read ! (25 behind 4) refl) (and-then ! (read ! (6 behind 4) refl)
+            (and-then ! (read ! (1 behind 4) refl) (and-then ! (read ! (20 behind 4) refl) (and-then ! (read ! (22 behind 4) refl)
+            (and-then ! (read ! (24 behind 4) refl) (and-then ! (read ! (26 behind 4) refl) (and-then ! (read ! (6 behind 4) refl)
             (and-then ! (read ! (11 behind 4) refl) (and-then ! (read ! (12 behind 4) refl) (and-then ! (read ! (8 behind 4) refl)
             (and-then ! (read ! (9 behind 4) refl) (and-then ! (read ! (10 behind 4) refl) (no-more !)))))))))))) (λ w.
             -- what it ensures, at some last contents of the tables
@@ -477,8 +481,8 @@ module _ {M : Type 1} (𝓤 : URA M) (H : Heap 𝓤) (A : Atoms 𝓤) (W : Given
             pick ! (λ ws. split ! $ move ! (1 ∷ []) $ heard ! (Said r ws) (λ said. move ! (1 ∷ []) $ split ! $ move ! (1 ∷ []) $
             peeks ! U.the-row (Is U.the-row) (shows 𝓤 H A U.the-row) r (w ∷ []) (λ is.
             -- [the result's own; the tokens; the last tables; the records; the locals]
-            land ! (from ! (stop !)) (init ! (13 behind 6) refl (LL.lawful U.the-type U′.the-laws 𝓤 H A W .typed r _ is .0)) $
-            holds ! (13 behind 6) (ap only (LL.tells U.the-type U′.the-laws r (w ∷ []) is)) refl $ drop ! $ move ! (2 ∷ 3 ∷ 4 ∷ []) $
+            land ! (from ! (stop !)) (init ! (14 behind 6) refl (LL.lawful U.the-type U′.the-laws 𝓤 H A W .typed r _ is .0)) $
+            holds ! (14 behind 6) (ap only (LL.tells U.the-type U′.the-laws r (w ∷ []) is)) refl $ drop ! $ move ! (2 ∷ 3 ∷ 4 ∷ []) $
             stores r ws said (LL.owed U.the-type U′.the-laws r _ is .0) (LL.owed U.the-type U′.the-laws r _ is .1 .0))))))
 
         -- the count, zero selectors, and the test: where the core is in the list, its record is read
@@ -486,20 +490,21 @@ module _ {M : Type 1} (𝓤 : URA M) (H : Heap 𝓤) (A : Atoms 𝓤) (W : Given
         begins =
             sets ! (of-opd ! (read-field ! (7 behind 4) refl refl refl)) (11 behind 4) refl (tt, record { fits = room .0 }) $
             sets ! (agg ! (and-then ! (lit ! tt) (and-then ! (lit ! tt) (and-then ! (lit ! tt) (no-more !))))) (12 behind 4) refl (core-typed noCore none-is) $
-            sets ! (bin ! (read ! (8 behind 4) refl) (read ! (11 behind 4) refl) tt) (14 behind 4) refl (tt, tt) $ first ! $
-            branches ! (read ! (14 behind 4) refl) (λ inside. let within = ltb→lt i (length ys) inside in
-            sets ! (bin ! (read ! (8 behind 4) refl) (lit ! tt) (place-fits within)) (15 behind 4) refl (tt, place-fits within) $
-            sets ! (bin ! (read-field ! (7 behind 4) refl refl refl) (read ! (15 behind 4) refl) tt) (16 behind 4) refl (tt, tt) $
-            holds ! (16 behind 4) place-lies refl $ opens-slice ! tt R.the-row ys b o $
+            sets ! (bin ! (read ! (8 behind 4) refl) (read ! (11 behind 4) refl) tt) (13 behind 4) refl (tt, tt) $
+            sets ! (of-opd ! (read ! (13 behind 4) refl)) (15 behind 4) refl (tt, tt) $ first ! $
+            branches ! (read ! (15 behind 4) refl) (λ inside. let within = ltb→lt i (length ys) inside in
+            sets ! (bin ! (read ! (8 behind 4) refl) (lit ! tt) (place-fits within)) (16 behind 4) refl (tt, place-fits within) $
+            sets ! (bin ! (read-field ! (7 behind 4) refl refl refl) (read ! (16 behind 4) refl) tt) (17 behind 4) refl (tt, tt) $
+            holds ! (17 behind 4) place-lies refl $ opens-slice ! tt R.the-row ys b o $
             elem-out ! R.the-row (Is R.the-row) (shows 𝓤 H A R.the-row) (LL.vals R.the-type R′.the-laws) (LL.tells R.the-type R′.the-laws)
             fullShare ys i noCore b o within (λ is.
             -- [the record's cell and own; the rest of the row; the opened borrow; both halves of its name; the tables; the locals]
-            sets ! (of-opd ! (load ! (from ! (hop ! (look ! (16 behind 7) refl) (stop !))) (look-raw ! 0 refl))) (17 behind 7) refl (core-typed core is) $
-            assigns-last ! (of-opd ! (read ! (17 behind 7) refl)) (from ! (stop !)) (store ! (12 behind 7) refl (core-typed core is)) $
-            exec ! C Λ E parts.t-5 (atRet E Post) $ elem-back ! R.the-row fullShare ys i noCore (core-val core ∷ []) b o within $
-            closes-slice ! tt R.the-row ys ys refl b o $ forget ! (17 behind 4) refl $ forget ! (16 behind 4) refl $ forget ! (15 behind 4) refl $ calls is))
+            sets ! (of-opd ! (load ! (from ! (hop ! (look ! (17 behind 7) refl) (stop !))) (look-raw ! 0 refl))) (18 behind 7) refl (core-typed core is) $
+            assigns-last ! (of-opd ! (read ! (18 behind 7) refl)) (from ! (stop !)) (store ! (12 behind 7) refl (core-typed core is)) $
+            exec ! C Λ E parts.t-6 (atRet E Post) $ elem-back ! R.the-row fullShare ys i noCore (core-val core ∷ []) b o within $
+            closes-slice ! tt R.the-row ys ys refl b o $ forget ! (18 behind 4) refl $ forget ! (17 behind 4) refl $ forget ! (16 behind 4) refl $ calls is))
             -- where it is not, zero selectors are what `getD` gives
-            (λ outside. skips ! $ exec ! C Λ E parts.t-5 (atRet E Post) $
+            (λ outside. skips ! $ exec ! C Λ E parts.t-6 (atRet E Post) $
             let missing = sym (List·getD-eq-default ys noCore (nltb→le i (length ys) outside)) in
             holds ! (12 behind 4) (ap core-val missing) refl $ calls (subst IsCore missing none-is))
 
@@ -517,7 +522,7 @@ module _ {M : Type 1} (𝓤 : URA M) (H : Heap 𝓤) (A : Atoms 𝓤) (W : Given
           pass1 ! (init ! (9 behind 0) refl (tt, record { fits = kind-fits })) $
           pass1 ! (init ! (10 behind 0) refl (tt, record { fits = argument-fits })) $ pass0 ! $
           -- [the locals; the records; the tables]
-          move ! (56 ∷ 57 ∷ 58 ∷ 59 ∷ []) $ begins bs))
+          move ! (58 ∷ 59 ∷ 60 ∷ 61 ∷ []) $ begins bs))
 
 module _ {M : Type 1} (𝓤 : URA M) (H : Heap 𝓤) (A : Atoms 𝓤) (W : Given 𝓤 H A) (mem : Memory → SProp 𝓤) (run : Routine → Fun 𝓤) where
   step-walks : (C : Calls 𝓤 H) (Λ : Loops 𝓤 H) → FmC 𝓤 H (W .laws) C → Triple 𝓤 (C #cores·turn) (Turns 𝓤 H A mem run)

@@ -1,0 +1,2 @@
+-- What the walk of `lend` cites.
+pub mod Loan

@@ -1,0 +1,59 @@
+-- `lending::run` meets its contract.
+use Prim.Native.Nat.{_-_, _<_, _≤_}
+use native.Mathlib.Omega.{arith}
+use lib.ListN.{length}
+use Rattle.lending.proofs.run.Statement.{statement}
+use Rattle.lending.proofs.run.Tie as tie
+
+abbrev Inv-loop : tie.InvT-loop
+Inv-loop tags₀ valid₀ dirty₀ words₀ text bench₀ from₀ tags valid dirty words bench from = from ≤ length text
+
+abbrev μ-loop : tie.MeasureT-loop
+μ-loop tags₀ valid₀ dirty₀ words₀ text bench₀ from₀ tags valid dirty words bench from = length text - from
+
+fresh-domains-requires : tie.Need-fresh-domains-requires Inv-loop μ-loop
+fresh-domains-requires c κs = tt
+
+loop-holds : tie.Need-loop-holds Inv-loop μ-loop
+loop-holds c = omega arith
+
+line-after-requires : tie.Need-line-after-requires Inv-loop μ-loop
+line-after-requires c κs = omega arith
+
+sub-do-line : tie.Need-sub-do-line Inv-loop μ-loop
+sub-do-line c = omega arith
+
+part-do-line-start : tie.Need-part-do-line-start Inv-loop μ-loop
+part-do-line-start c = omega arith
+
+part-do-line-end : tie.Need-part-do-line-end Inv-loop μ-loop
+part-do-line-end c = omega arith
+
+do-line-requires : tie.Need-do-line-requires Inv-loop μ-loop
+do-line-requires c κs = omega arith
+
+loop-less : tie.Need-loop-less Inv-loop μ-loop
+loop-less c = omega arith
+
+loop-again : tie.Need-loop-again Inv-loop μ-loop
+loop-again c = omega arith
+
+returns : tie.Need-returns Inv-loop μ-loop
+returns c = tt
+
+pub run-spec : {M : Type 1} → statement M
+run-spec =
+    tie.close
+    (tie.spec
+    Inv-loop
+    μ-loop
+    fresh-domains-requires
+    loop-holds
+    line-after-requires
+    sub-do-line
+    part-do-line-start
+    part-do-line-end
+    do-line-requires
+    loop-less
+    loop-again
+    returns)
