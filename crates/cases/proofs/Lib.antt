@@ -1,2 +1,3 @@
 -- The worked cases, shown.
+pub mod Computing
 pub mod Worked

@@ -3,12 +3,7 @@
 use mathlib.Core.Path.{_≡_, refl, sym, ap, _∙_}
 use mathlib.Core.List.{List, [], _∷_, _++_, map, map-append}
 use Prim.Native.Nat.{ℕ}
-use Rattle.tree.specs.Tree as Tree
-use Rattle.nru.specs.Nru as Nru
-use Rattle.replacement.specs.Calls.{victimOf, touchOf, freshOf, ownOf, sharesOf}
-use Rattle.selectors.specs.Selectors.{namesCore, coreless}
-use Rattle.steps.proofs.Computing.{computing}
-use Rattle.cores.proofs.Computing.{coreComputing}
+use Rattle.cases.proofs.Computing.{callsComputing}
 use Rattle.cases.specs.Case.{Case, joined}
 use Rattle.cases.specs.Orders.{orders}
 use Rattle.cases.specs.Visits.{lookups}
@@ -21,6 +16,12 @@ use Rattle.cases.specs.Locked.{lockedLines}
 use Rattle.cases.specs.Nodes.{nodes}
 use Rattle.cases.specs.Trees.{trees}
 use Rattle.cases.specs.Alone.{alone}
+use Rattle.cases.specs.RuleCalls.{ruleCalls}
+use Rattle.cases.specs.SetCalls.{setCalls}
+use Rattle.cases.specs.DeedCases.{deedCases}
+use Rattle.cases.specs.ByteCases.{byteCases}
+use Rattle.cases.specs.Blocks.{blocks}
+use Rattle.cases.specs.ListCases.{listCases}
 use Rattle.cases.specs.Cases.{printedCases, parts, cases}
 
 -- In every case of a list the rules give what they have to.
@@ -36,52 +37,76 @@ Hold cs = givens cs ≡ printeds cs
 -- ---- list by list
 
 printed-hold : (u : ℕ) → Hold (printedCases u)
-unfolding computing printedCases
+unfolding callsComputing printedCases
 printed-hold u = refl
 
 orders-hold : Hold orders
-unfolding computing orders
+unfolding callsComputing orders
 orders-hold = refl
 
 lookups-hold : Hold lookups
-unfolding computing lookups
+unfolding callsComputing lookups
 lookups-hold = refl
 
 choices-hold : Hold choices
-unfolding computing choices
+unfolding callsComputing choices
 choices-hold = refl
 
 lent-hold : Hold lent
-unfolding computing lent
+unfolding callsComputing lent
 lent-hold = refl
 
 refusals-hold : Hold refusals
-unfolding computing refusals
+unfolding callsComputing refusals
 refusals-hold = refl
 
 sharing-hold : Hold sharing
-unfolding computing sharing
+unfolding callsComputing sharing
 sharing-hold = refl
 
 kinds-hold : Hold kinds
-unfolding coreComputing namesCore coreless kinds
+unfolding callsComputing kinds
 kinds-hold = refl
 
 locked-lines-hold : Hold lockedLines
-unfolding computing lockedLines
+unfolding callsComputing lockedLines
 locked-lines-hold = refl
 
 nodes-hold : Hold nodes
-unfolding computing Tree.mask Tree.policy Tree.masked Tree.maskedVictim nodes
+unfolding callsComputing nodes
 nodes-hold = refl
 
 trees-hold : Hold trees
-unfolding computing trees
+unfolding callsComputing trees
 trees-hold = refl
 
 alone-hold : Hold alone
-unfolding computing victimOf touchOf freshOf ownOf sharesOf Tree.own Nru.own alone
+unfolding callsComputing alone
 alone-hold = refl
+
+rule-calls-hold : Hold ruleCalls
+unfolding callsComputing ruleCalls
+rule-calls-hold = refl
+
+set-calls-hold : Hold setCalls
+unfolding callsComputing setCalls
+set-calls-hold = refl
+
+deeds-hold : Hold deedCases
+unfolding callsComputing deedCases
+deeds-hold = refl
+
+bytes-hold : Hold byteCases
+unfolding callsComputing byteCases
+bytes-hold = refl
+
+blocks-hold : Hold blocks
+unfolding callsComputing blocks
+blocks-hold = refl
+
+lists-hold : Hold listCases
+unfolding callsComputing listCases
+lists-hold = refl
 
 -- ---- joined
 
@@ -104,6 +129,12 @@ shown u =
     ∷ record { these = nodes; hold = nodes-hold }
     ∷ record { these = trees; hold = trees-hold }
     ∷ record { these = alone; hold = alone-hold }
+    ∷ record { these = ruleCalls; hold = rule-calls-hold }
+    ∷ record { these = setCalls; hold = set-calls-hold }
+    ∷ record { these = deedCases; hold = deeds-hold }
+    ∷ record { these = byteCases; hold = bytes-hold }
+    ∷ record { these = blocks; hold = blocks-hold }
+    ∷ record { these = listCases; hold = lists-hold }
     ∷ []
 
 all-hold : (xs : List Shown) → Hold (joined (map (λ (x : Shown). x .these) xs))

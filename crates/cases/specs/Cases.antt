@@ -24,6 +24,12 @@ use Rattle.cases.specs.Locked.{lockedLines}
 use Rattle.cases.specs.Nodes.{nodes}
 use Rattle.cases.specs.Trees.{trees}
 use Rattle.cases.specs.Alone.{alone}
+use Rattle.cases.specs.RuleCalls.{ruleCalls}
+use Rattle.cases.specs.SetCalls.{setCalls}
+use Rattle.cases.specs.DeedCases.{deedCases}
+use Rattle.cases.specs.ByteCases.{byteCases}
+use Rattle.cases.specs.Blocks.{blocks}
+use Rattle.cases.specs.ListCases.{listCases}
 
 -- A bit as a number.
 abbrev flag : Bool → ℕ
@@ -91,6 +97,12 @@ parts u =
     ∷ nodes
     ∷ trees
     ∷ alone
+    ∷ ruleCalls
+    ∷ setCalls
+    ∷ deedCases
+    ∷ byteCases
+    ∷ blocks
+    ∷ listCases
     ∷ []
 
 unfoldable pub cases : ℕ → List Case

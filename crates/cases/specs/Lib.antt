@@ -12,4 +12,10 @@ pub mod Locked
 pub mod Nodes
 pub mod Trees
 pub mod Alone
+pub mod RuleCalls
+pub mod SetCalls
+pub mod DeedCases
+pub mod ByteCases
+pub mod Blocks
+pub mod ListCases
 pub mod Cases

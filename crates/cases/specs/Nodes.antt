@@ -114,10 +114,9 @@ ofSixteen =
     ∷ of 16 0x00ff 1946 0 0 7
     ∷ of 16 0xff00 30820 1 8 15
     ∷ of 16 0x0ff0 7729 2 4 11
-    -- every other way, every other pair, every other quarter
+    -- every other way, and every other quarter
     ∷ of 16 0x5555 127 0 0 14
     ∷ of 16 0xaaaa 127 32640 1 15
-    ∷ of 16 0xcccc 21767 120 2 15
     ∷ of 16 0x0f0f 6569 0 0 11
     -- one way of each quarter: 3, 6, 9 and 12
     ∷ of 16 0x1248 7 2328 3 12
@@ -126,7 +125,6 @@ ofSixteen =
     ∷ of 16 0xfffe 32639 128 1 15
     -- no pattern
     ∷ of 16 0x2c93 4247 9248 0 13
-    ∷ of 16 0x9e05 4205 18432 0 15
     ∷ []
 
 -- "Masked form: (word and not mask) or (mask and policy), mask being one at nodes that are not free, policy one at nodes forced right; the tree is then
@@ -142,9 +140,7 @@ maskedForm =
     -- map 12 of eight ways, cases D and E
     masks 8 0x0c 0 111 2 2 2
     ∷ masks 8 0x0c 16 111 2 18 3
-    -- bits of nodes that are not free have no say: all ones, under map 0xa0
-    ∷ masks 8 0xa0 127 123 97 101 7
-    -- bits above the nodes stay: of four ways, under map 2
+    -- bits of nodes that are not free have no say, and bits above the nodes stay: all ones, of four ways under map 2
     ∷ masks 4 2 18446744073709551615 7 2 18446744073709551610 1
     ∷ []
 

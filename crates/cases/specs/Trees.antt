@@ -19,17 +19,14 @@ touched W m x ways = map (λ (w : ℕ). word (W - 1) (Tree.touch W (bit m) w (bi
 abbrev victims : ℕ → ℕ → List ℕ → List ℕ
 victims W m words = map (λ (x : ℕ). tree W .victim m x) words
 
--- The ways below four, eight and sixteen.
+-- The ways below four, and below eight.
 abbrev four : List ℕ
 four = 0 ∷ 1 ∷ 2 ∷ 3 ∷ []
 
 abbrev eight : List ℕ
 eight = four ++ (4 ∷ 5 ∷ 6 ∷ 7 ∷ [])
 
-abbrev sixteen : List ℕ
-sixteen = eight ++ (8 ∷ 9 ∷ 10 ∷ 11 ∷ 12 ∷ 13 ∷ 14 ∷ 15 ∷ [])
-
--- Under the map of all ways: every way of a word of zeros, where nodes turn right, and ways of one of ones, where nodes turn left. Touching way 0 of
+-- Under the map of all ways: ways of a word of zeros, where nodes turn right, and of one of ones, where nodes turn left. Touching way 0 of
 -- sixteen turns nodes 0, 1, 3 and 7 right: 1 + 2 + 8 + 128 = 139. Touching way 15 turns nodes 0, 2, 6 and 14 left.
 abbrev touches : List Case
 touches =
@@ -38,11 +35,12 @@ touches =
     ∷ record { given = touched 4 15 7 four; printed = 7 ∷ 5 ∷ 6 ∷ 2 ∷ [] }
     ∷ record { given = touched 8 255 0 eight; printed = 11 ∷ 3 ∷ 17 ∷ 1 ∷ 36 ∷ 4 ∷ 64 ∷ 0 ∷ [] }
     ∷ record { given = touched 8 255 127 eight; printed = 127 ∷ 119 ∷ 125 ∷ 109 ∷ 126 ∷ 94 ∷ 122 ∷ 58 ∷ [] }
+    -- of sixteen ways the even ones of zeros, and the odd ones of ones: so that each node is turned both ways
+    ∷ record { given = touched 16 0xffff 0 (0 ∷ 2 ∷ 4 ∷ 6 ∷ 8 ∷ 10 ∷ 12 ∷ 14 ∷ []); printed = 139 ∷ 259 ∷ 529 ∷ 1025 ∷ 2084 ∷ 4100 ∷ 8256 ∷ 16384 ∷ [] }
     ∷ record {
-      given = touched 16 0xffff 0 sixteen;
-      printed = 139 ∷ 11 ∷ 259 ∷ 3 ∷ 529 ∷ 17 ∷ 1025 ∷ 1 ∷ 2084 ∷ 36 ∷ 4100 ∷ 4 ∷ 8256 ∷ 64 ∷ 16384 ∷ 0 ∷ [];
+      given = touched 16 0xffff 32767 (1 ∷ 3 ∷ 5 ∷ 7 ∷ 9 ∷ 11 ∷ 13 ∷ 15 ∷ []);
+      printed = 32639 ∷ 32503 ∷ 32253 ∷ 31725 ∷ 30718 ∷ 28638 ∷ 24570 ∷ 16314 ∷ [];
     }
-    ∷ record { given = touched 16 0xffff 32767 (0 ∷ 6 ∷ 9 ∷ 15 ∷ []); printed = 32767 ∷ 32749 ∷ 30718 ∷ 16314 ∷ [] }
     -- "each free node": every other way of sixteen, with free nodes 0 to 6
     ∷ record { given = touched 16 0x5555 0 (0 ∷ 12 ∷ []); printed = 11 ∷ 64 ∷ [] }
     -- ways 0, 5, 10 and 15, with free nodes 0, 1 and 2: way 5 of zeros, way 10 of ones
@@ -67,14 +65,9 @@ runs =
       given = victims 16 0xffff (0 ∷ 139 ∷ 2222 ∷ 2749 ∷ 11000 ∷ 11251 ∷ 15318 ∷ 16325 ∷ 32640 ∷ 32523 ∷ 30510 ∷ 30013 ∷ 21880 ∷ 21619 ∷ 17494 ∷ 16453 ∷ []);
       printed = 0 ∷ 8 ∷ 4 ∷ 12 ∷ 2 ∷ 10 ∷ 6 ∷ 14 ∷ 1 ∷ 9 ∷ 5 ∷ 13 ∷ 3 ∷ 11 ∷ 7 ∷ 15 ∷ [];
     }
-    -- ways 4 to 11 of sixteen, from a word of ones
-    ∷ record {
-      given = victims 16 0x0ff0 (32767 ∷ 28638 ∷ 27599 ∷ 25582 ∷ 25087 ∷ 29150 ∷ 30159 ∷ 32238 ∷ []);
-      printed = 11 ∷ 7 ∷ 9 ∷ 5 ∷ 10 ∷ 6 ∷ 8 ∷ 4 ∷ [];
-    }
-    -- ways 0, 5, 10 and 15, and ways 0 and 15 alone
-    ∷ record { given = victims 16 0x8421 (0 ∷ 3 ∷ 6 ∷ 5 ∷ 0 ∷ []); printed = 0 ∷ 10 ∷ 5 ∷ 15 ∷ 0 ∷ [] }
-    ∷ record { given = victims 16 0x8001 (32767 ∷ 32766 ∷ 32767 ∷ []); printed = 15 ∷ 0 ∷ 15 ∷ [] }
+    -- ways 4 to 11 of sixteen, from a word of ones; and ways 0, 5, 10 and 15, by nodes 0, 1 and 2
+    ∷ record { given = victims 16 0x0ff0 (32767 ∷ 28638 ∷ 27599 ∷ 25582 ∷ []); printed = 11 ∷ 7 ∷ 9 ∷ 5 ∷ [] }
+    ∷ record { given = victims 16 0x8421 (0 ∷ 3 ∷ 6 ∷ 5 ∷ []); printed = 0 ∷ 10 ∷ 5 ∷ 15 ∷ [] }
     -- ways 2 to 5 of eight; and ways 0, 3 and 5, of which way 5 comes twice as often
     ∷ record { given = victims 8 0x3c (85 ∷ 116 ∷ 101 ∷ 68 ∷ 85 ∷ []); printed = 4 ∷ 3 ∷ 5 ∷ 2 ∷ 4 ∷ [] }
     ∷ record { given = victims 8 0x29 (0 ∷ 3 ∷ 2 ∷ 1 ∷ []); printed = 0 ∷ 5 ∷ 3 ∷ 5 ∷ [] }

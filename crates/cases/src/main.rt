@@ -278,20 +278,20 @@ fn every_line() {
     put_answer(calls(&mut tags, &mut valid, &mut dirty, &mut words));
 }
 
-// Files of ours, beside the cases on lent states in specs/. 1 set, 2 ways, 16 steps: domain 0 takes both ways; kinds 4, 15, 17, 31, 36, 39, 41 and
-// 255 are unknown; kinds 17 and 36 by domain 16, and 36 by domain 32, are 3; three selector writes are refused, for a selector of 16, for a fourth
-// byte and for core 32; so core 0 still loads for domain 0.
+// Files of ours, beside the cases on lent states in specs/. 1 set, 2 ways, 13 steps: domain 0 takes both ways; kinds 4, 17, 36, 41 and 255 are
+// unknown; kinds 17 and 36 by domain 16, and 36 by domain 32, are 3; three selector writes are refused, for a selector of 16, for a fourth byte and
+// for core 32; so core 0 still loads for domain 0.
 // Then 4 ways. Under rule 0, 7 steps: beside maps 5 and 5, maps 7 and 7 are 8, which comes before 9, and maps 10 and 10 are 9; beside hit map 5 with
 // fill map 1 these stand. Arguments 2^32 and 2^63 + 0x30003 are 5. Under rule 1, 2 steps: maps 5 and 10 stand.
 fn numbers() {
     show(
-        b"\x01\0\x02\0\x10\0\0\0\
-          \0\x10\0\x04\0\x0f\0\x11\0\x1f\0\x24\0\x27\0\x29\0\xff\x10\x11\x10\x24\x20\x24\
-          \0\x28\0\x28\x20\x28\0\x21\
+        b"\x01\0\x02\0\x0d\0\0\0\
+          \0\x10\0\x04\0\x11\0\x24\0\x29\0\xff\x10\x11\x10\x24\x20\x24\0\x28\0\x28\x20\x28\
+          \0\x21\
           \x03\0\x03\0\0\0\0\0\x03\0\x03\0\0\0\0\0\x03\0\x03\0\0\0\0\0\x03\0\x03\0\0\0\0\0\
-          \x03\0\x03\0\0\0\0\0\x03\0\x03\0\0\0\0\0\x03\0\x03\0\0\0\0\0\x03\0\x03\0\0\0\0\0\
-          \x03\0\x03\0\0\0\0\0\0\0\0\0\0\0\0\0\0\0\0\0\0\0\0\0\0\0\0\0\0\0\0\0\
-          \x10\0\0\0\0\0\0\0\0\0\0\x01\0\0\0\0\0\0\0\0\0\0\0\0\0\0\0\0\0\0\0\0",
+          \x03\0\x03\0\0\0\0\0\x03\0\x03\0\0\0\0\0\0\0\0\0\0\0\0\0\0\0\0\0\0\0\0\0\
+          \0\0\0\0\0\0\0\0\x10\0\0\0\0\0\0\0\0\0\0\x01\0\0\0\0\0\0\0\0\0\0\0\0\
+          \0\0\0\0\0\0\0\0",
         true,
     );
     show(
@@ -311,8 +311,8 @@ fn numbers() {
 
 // 1 set, 4 ways, 9 steps: domain 0 takes all ways, stores to line 0 and loads lines 1 to 3, and leaves ways 2 and 3 out of its fill map. Line 0 is
 // flushed from way 3 and line 1 hit in way 2, both locked; line 4 evicts line 2 from way 1, though way 3 is empty.
-// Then 16 ways, 20 steps: domain 0 takes all ways and loads lines 0 to 15, so that each node points right; a hit in way 15 turns nodes 0, 2, 6 and 14
-// left. The next evictions take way 7, by nodes 0, 1, 4 and 10, and way 11, by nodes 0, 2, 5 and 12.
+// Then 16 ways, 8 steps: domain 0 takes ways 0, 5, 10 and 15, with free nodes 0, 1 and 2, and loads lines 0 to 3, so that each of them points right; a
+// hit in way 15 turns nodes 0 and 2 left. The next evictions take way 5, by nodes 0 and 1, and way 10, by nodes 0 and 2.
 fn lines() {
     show(
         b"\x01\0\x04\0\x09\0\0\0\
@@ -323,14 +323,10 @@ fn lines() {
         true,
     );
     show(
-        b"\x01\0\x10\0\x14\0\0\0\
-          \0\x10\0\x01\0\x01\0\x01\0\x01\0\x01\0\x01\0\x01\0\x01\0\x01\0\x01\0\x01\
-          \0\x01\0\x01\0\x01\0\x01\0\x01\0\x01\0\x01\0\x01\
-          \xff\xff\xff\xff\0\0\0\0\0\0\0\0\0\0\0\0\x40\0\0\0\0\0\0\0\x80\0\0\0\0\0\0\0\
-          \xc0\0\0\0\0\0\0\0\0\x01\0\0\0\0\0\0\x40\x01\0\0\0\0\0\0\x80\x01\0\0\0\0\0\0\
-          \xc0\x01\0\0\0\0\0\0\0\x02\0\0\0\0\0\0\x40\x02\0\0\0\0\0\0\x80\x02\0\0\0\0\0\0\
-          \xc0\x02\0\0\0\0\0\0\0\x03\0\0\0\0\0\0\x40\x03\0\0\0\0\0\0\x80\x03\0\0\0\0\0\0\
-          \xc0\x03\0\0\0\0\0\0\0\0\0\0\0\0\0\0\0\x04\0\0\0\0\0\0\x40\x04\0\0\0\0\0\0",
+        b"\x01\0\x10\0\x08\0\0\0\
+          \0\x10\0\x01\0\x01\0\x01\0\x01\0\x01\0\x01\0\x01\
+          \x21\x84\x21\x84\0\0\0\0\0\0\0\0\0\0\0\0\x40\0\0\0\0\0\0\0\x80\0\0\0\0\0\0\0\
+          \xc0\0\0\0\0\0\0\0\0\0\0\0\0\0\0\0\0\x01\0\0\0\0\0\0\x40\x01\0\0\0\0\0\0",
         true,
     );
 }
