@@ -1,7 +1,7 @@
 -- Kinds by their numbers: "Kinds 4 to 15 and 17 to 255 are unknown" (document 01), and where a list of core records is lent, "Kinds 32 to 35 are kinds 0 to
 -- 3 with a core in place of the domain" and "Kind 40 writes a core's selectors"; "where no list is lent these kinds stay unknown" (document 02, job 5). All
 -- on lent states, worked out by hand.
-use mathlib.Core.Bool.{Bool, true, false, cond}
+use mathlib.Core.Bool.{Bool, cond}
 use mathlib.Core.List.{List, [], _∷_, _++_, map}
 use Prim.Native.Nat.{ℕ, _+_, _^_}
 use Rattle.command.specs.Command.{Command}
@@ -9,7 +9,7 @@ use Rattle.selectors.specs.Selectors.{freshCores, namesCore, coreless}
 use Rattle.selectors.specs.declared.Core.{Core}
 use Rattle.steps.specs.Step.{State}
 use Rattle.cores.specs.Step.{Result, coreStep}
-use Rattle.cases.specs.Case.{Case, hit, fill, flush, absent, policy, refused}
+use Rattle.cases.specs.Case.{Case, hit, flush, absent, policy, refused}
 use Rattle.cases.specs.States.{plru, domain, row, stateNumbers, after, still}
 
 -- A step: its domain or core, kind and argument.
@@ -67,7 +67,7 @@ unknown kind =
 abbrev unknowns : List Case
 unknowns = unknown 4 ++ (unknown 15 ++ (unknown 17 ++ (unknown 31 ++ (unknown 36 ++ (unknown 39 ++ (unknown 41 ++ unknown 255))))))
 
--- Kinds 5 to 14, 18 to 30, 37 and 38, 42 and 254, by domain 0, without a list and with 32 records: the answers alone.
+-- Other unknown kinds, each by domain 0 and by domain 16, with 32 records: the answers alone, 4 and 3.
 abbrev answers : List ℕ → List ℕ
 answers [] = []
 answers (k ∷ ks) =
@@ -86,14 +86,17 @@ others = record { given = answers between; printed = turnedDown between } ∷ []
 
 -- ---- The kinds that are known
 
--- "Kinds: 0 instruction fetch, 1 load, 2 store, 3 flush, 16 policy", by domain 0 of this state: each hits way 0, a store marks it dirty, and a flush leaves
--- it invalid.
+-- "Kinds: 0 instruction fetch, 1 load, 2 store, 3 flush, 16 policy"
 abbrev known : List Case
 known =
+    -- domain 0 fetches line 5, and loads it: a hit in way 0
     after (plru 1 2) (does 0 0 320) lent (hit 0) (row (5 ∷ 6 ∷ []) 3 1 0 (domain 1 1 2 2 3 4 5 6 7 ∷ domain 2 2 1 2 3 4 5 6 7 ∷ []))
     ∷ after (plru 1 2) (does 0 1 320) lent (hit 0) (row (5 ∷ 6 ∷ []) 3 1 0 (domain 1 1 2 2 3 4 5 6 7 ∷ domain 2 2 1 2 3 4 5 6 7 ∷ []))
+    -- domain 1 stores to line 6: a hit in way 1, which becomes dirty
     ∷ after (plru 1 2) (does 1 2 384) lent (hit 1) (row (5 ∷ 6 ∷ []) 3 3 0 (domain 1 1 1 2 3 4 5 6 7 ∷ domain 2 2 2 2 3 4 5 6 7 ∷ []))
+    -- domain 0 flushes line 5, which is dirty
     ∷ after (plru 1 2) (does 0 3 320) lent (flush 0 1) (row (5 ∷ 6 ∷ []) 2 0 0 (domain 1 1 1 2 3 5 6 6 7 ∷ domain 2 2 1 2 3 4 5 6 7 ∷ []))
+    -- domain 0 is removed
     ∷ after (plru 1 2) (does 0 16 0) lent (policy 1 1) (row (0 ∷ 6 ∷ []) 2 0 0 (domain 0 0 0 0 0 0 0 0 0 ∷ domain 2 2 1 2 3 4 5 6 7 ∷ []))
     ∷ []
 

@@ -5,7 +5,7 @@ use Prim.Native.Nat.{ℕ}
 use lib.ListN.{replicate}
 use Rattle.domains.specs.declared.Domain.{Domain}
 use Rattle.steps.specs.Step.{State}
-use Rattle.cases.specs.Case.{Case, hit, fill, evict, pass, flush, absent, policy}
+use Rattle.cases.specs.Case.{Case, hit, evict, pass, flush, absent, policy}
 use Rattle.cases.specs.States.{plru, nru, lru, fetches, loads, stores, flushes, takes, line, domain, row, after, still}
 
 -- Four ways of domain 0, of which ways 2 and 3 are locked. Valid map, dirty map, word, and the counts that move.

@@ -5,7 +5,6 @@ use Prim.Native.Nat.{ℕ, _+_, _*_, _^_}
 use lib.ListN.{replicate}
 use Rattle.command.specs.Command.{Command}
 use Rattle.geometry.specs.declared.Geometry.{Geometry}
-use Rattle.domains.specs.declared.Domain.{Domain}
 use Rattle.steps.specs.Step.{State}
 use Rattle.cases.specs.Case.{Case, policy, refused}
 use Rattle.cases.specs.States.{plru, nru, lru, loads, flushes, takes, line, domain, state, row, after, still}
