@@ -162,8 +162,9 @@ class Changes:
         of = [self.of(a) for a in args]
         if name == "eqb" and len(of) == 2:
             self.add(node, f"not (eqb {of[0]} {of[1]})", "negated")
-            self.add(node, f"leb {of[0]} {of[1]}", "word")
-            self.add(node, f"leb {of[1]} {of[0]}", "word")
+            for one, two in (of, of[::-1]):
+                if two != "0":  # a number that is at most 0 is 0
+                    self.add(node, f"leb {one} {two}", "word")
         elif name in ("not", "suc") and len(of) == 1:
             self.add(node, of[0], "dropped")
         elif name == "xor" and len(of) == 2:

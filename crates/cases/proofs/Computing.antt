@@ -19,6 +19,10 @@ use Rattle.verdict.specs.Calls.{policyRefusalOf}
 use Rattle.geometry.specs.Address.{placeOf}
 use Rattle.geometry.specs.Geometry.{sizesOf}
 use Rattle.fresh.specs.Calls.{freshOf}
+use Rattle.demand.specs.Free.{digit, someIn, freeFrom, isFree}
+use Rattle.demand.specs.Order.{freshWord, wayAt, howMany, firstOf, isOrder, placeOf as placeIn}
+use Rattle.demand.specs.Demand.{struckOut, verdictOf, isOwn, isPair}
+use Rattle.reached.specs.Balance.{held}
 use Rattle.steps.specs.Deed.{onRow, workAt, unless, lineDeed, dropMap, dropsAmong, dropsBy, policyDeed, putDeed}
 use Rattle.endian.specs.Bytes.{value, digits, field, putField, cut, joined}
 use Rattle.runs.specs.Runs.{numbers, bytesOf, readRun, putRun}
@@ -50,5 +54,6 @@ unfolding lowest put takes mask policy masked maskedVictim own Tree.victimOf Tre
     lengthRefusal blockRefusal freshCall stepTurn stateAfter padded numberIn filled stepCall codeOf commandOf commandsOf namesCore coreless recordBy keeps
     keepsBy corePurge purgeOf numberOf lookupAt visitedAt visitsOf alongBy coreAlong ownCoreVisits told removes tallied tally talliedBy coreTally locked
     lockedIn isLocked strike decimalBy line toldOf answerLines domainLine domainPart domainLines runLines listing linesBefore listingBefore lastTables listOf
-    turnOf onRow workAt unless lineDeed dropMap dropsAmong dropsBy policyDeed putDeed coreComputing
+    turnOf onRow workAt unless lineDeed dropMap dropsAmong dropsBy policyDeed putDeed held digit someIn freeFrom isFree freshWord wayAt
+    howMany firstOf isOrder placeIn struckOut verdictOf isOwn isPair coreComputing
 callsComputing = tt

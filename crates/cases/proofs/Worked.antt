@@ -22,6 +22,7 @@ use Rattle.cases.specs.DeedCases.{deedCases}
 use Rattle.cases.specs.ByteCases.{byteCases}
 use Rattle.cases.specs.Blocks.{blocks}
 use Rattle.cases.specs.ListCases.{listCases}
+use Rattle.cases.specs.DemandCases.{demandCases}
 use Rattle.cases.specs.Cases.{printedCases, parts, cases}
 
 -- In every case of a list the rules give what they have to.
@@ -108,6 +109,10 @@ lists-hold : Hold listCases
 unfolding callsComputing listCases
 lists-hold = refl
 
+demand-hold : Hold demandCases
+unfolding callsComputing demandCases
+demand-hold = refl
+
 -- ---- joined
 
 -- A list of which it is shown.
@@ -135,6 +140,7 @@ shown u =
     ∷ record { these = byteCases; hold = bytes-hold }
     ∷ record { these = blocks; hold = blocks-hold }
     ∷ record { these = listCases; hold = lists-hold }
+    ∷ record { these = demandCases; hold = demand-hold }
     ∷ []
 
 all-hold : (xs : List Shown) → Hold (joined (map (λ (x : Shown). x .these) xs))

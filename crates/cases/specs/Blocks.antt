@@ -32,8 +32,8 @@ counts hits misses evicted written flushed fills dropped =
 abbrev tables : ℕ → ℕ → ℕ → ℕ → ℕ → List ℕ
 tables valid dirty word tag₀ tag₁ = valid ∷ 0 ∷ dirty ∷ 0 ∷ (eight word ++ (eight tag₀ ++ eight tag₁))
 
--- "sets (2 bytes), ways (1), rule (1), four zero bytes; then 16 hit maps and 16 fill maps of 2 bytes; 16 records of seven 4-byte counts": the head, the maps and
--- counts of domain 1, and the tables; other domains have nothing.
+-- "sets (2 bytes), ways (1), rule (1), four zero bytes; then 16 hit maps and 16 fill maps of 2 bytes; 16 records of seven 4-byte counts": the head, the maps
+-- and counts of domain 1, and the tables; other domains have nothing.
 abbrev block : List ℕ → ℕ → ℕ → List ℕ → List ℕ → List ℕ
 block head hits fills record₁ rest =
     head

@@ -11,7 +11,7 @@ use Rattle.tracefile.specs.File.{fileRefusal}
 use Rattle.domains.specs.Domains.{noDomain}
 use Rattle.domains.specs.declared.Domain.{Domain}
 use Rattle.steps.specs.Step.{State}
-use Rattle.block.specs.Layout.{stateOf, blockOf}
+use Rattle.block.specs.Layout.{countsFrom, stateOf, blockOf}
 use Rattle.block.specs.Block.{Made, Stepped, freshCall, stepCall, stateAfter}
 use Rattle.cases.specs.Case.{Case}
 use Rattle.cases.specs.States.{nru, domain, state, line}
@@ -142,8 +142,14 @@ lent = replicate 32 170
 
 abbrev blocks : List Case
 blocks =
+    -- "seven 4-byte counts", by their places
+    record {
+      given = domainNumbers (record { hit = 8; fill = 9; counts = countsFrom (1 ∷ 2 ∷ 3 ∷ 4 ∷ 5 ∷ 6 ∷ 7 ∷ []) } ∷ []);
+      printed = 8 ∷ 9 ∷ 1 ∷ 2 ∷ 3 ∷ 4 ∷ 5 ∷ 6 ∷ 7 ∷ [];
+    }
+    ∷ record { given = domainNumbers (record { hit = 8; fill = 9; counts = countsFrom [] } ∷ []); printed = 8 ∷ 9 ∷ replicate 7 0 }
     -- written, and read back
-    record { given = blockOf (nru 1 2) before; printed = bytesBefore }
+    ∷ record { given = blockOf (nru 1 2) before; printed = bytesBefore }
     ∷ record { given = stateNumbers (stateOf (nru 1 2) bytesBefore); printed = stateNumbers before }
     -- "word number and three fields, each of 8 bytes": evict 1 6 1
     ∷ record { given = called (stepCall bytesBefore lent 0 1 (line 9)); printed = 0 ∷ (bytesAfter ++ answer 2 1 6 1) }

@@ -30,6 +30,7 @@ use Rattle.cases.specs.DeedCases.{deedCases}
 use Rattle.cases.specs.ByteCases.{byteCases}
 use Rattle.cases.specs.Blocks.{blocks}
 use Rattle.cases.specs.ListCases.{listCases}
+use Rattle.cases.specs.DemandCases.{demandCases}
 
 -- A bit as a number.
 abbrev flag : Bool → ℕ
@@ -103,6 +104,7 @@ parts u =
     ∷ byteCases
     ∷ blocks
     ∷ listCases
+    ∷ demandCases
     ∷ []
 
 unfoldable pub cases : ℕ → List Case

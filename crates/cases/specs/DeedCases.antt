@@ -11,10 +11,11 @@ use Rattle.policy.specs.declared.Maps.{Maps}
 use Rattle.domains.specs.declared.Domain.{Domain}
 use Rattle.domains.specs.declared.Policies.{Policies}
 use Rattle.steps.specs.Tables.{Tables}
-use Rattle.steps.specs.Step.{Outcome, tablesOf}
+use Rattle.steps.specs.Step.{State, Outcome, tablesOf}
 use Rattle.steps.specs.Deed.{Work, Deed, workAt, unless, lineDeed, dropMap, dropsAmong, dropsBy, policyDeed, putDeed}
 use Rattle.cases.specs.Case.{Case, hit, fill, evict, policy, refused}
-use Rattle.cases.specs.States.{plru, nru, domain, line}
+use Rattle.reached.specs.Balance.{held}
+use Rattle.cases.specs.States.{nru, domain, state, line}
 
 abbrev domainNumbers : Domain → List ℕ
 domainNumbers x =
@@ -52,6 +53,10 @@ one = domain 2 2 1 2 3 4 5 6 7
 abbrev policies : Policies
 policies = record { maps = maps 0xf1 1 ∷ maps 0xf2 0xf3 ∷ replicate 14 (maps 0 0) }
 
+-- Four sets, of which domain 1 has both ways in its hit map and way 0 alone in its fill map.
+abbrev fourSets : State
+fourSets = state (replicate 8 5) (3 ∷ 2 ∷ 1 ∷ 1 ∷ []) (replicate 4 0) (replicate 4 3) (domain 0 0 0 0 0 0 0 0 0 ∷ domain 3 1 1 2 3 4 5 6 7 ∷ [])
+
 abbrev deeds : List Case
 deeds =
     -- a store to line 17 is in set 1 and has tag 8: it hits way 1 and clears its bit
@@ -83,9 +88,18 @@ drops =
       given = word 16 (dropMap 2 (maps 0xf2 0xf3) policies 1 0x10001) ∷ word 16 (dropMap 2 (maps 1 1) policies 0 0x20002) ∷ [];
       printed = 2 ∷ 1 ∷ [];
     }
+    -- way 0 in the hit map alone is taken from domain 0 as well
+    ∷ record { given = word 16 (dropMap 2 (maps 0xf2 0xf3) policies 1 1) ∷ []; printed = 2 ∷ [] }
     ∷ record {
       given = dropsAmong 2 (maps 0xf2 0xf3) policies 1 0x10001 (3 ∷ 1 ∷ 2 ∷ []) ∷ dropsBy (nru 2 2) one policies 1 0x10001 two ∷ [];
       printed = 2 ∷ 2 ∷ [];
+    }
+    -- in all of four sets
+    ∷ record {
+      given =
+          dropsBy (nru 4 2) one policies 1 0x10001 (tablesOf (replicate 8 5) (3 ∷ 2 ∷ 1 ∷ 3 ∷ []) (replicate 4 0) (replicate 4 0))
+          ∷ held (nru 4 2) 1 fourSets ∷ [];
+      printed = 3 ∷ 5 ∷ [];
     }
     -- domain 1 gives its fill way up and keeps the hit way: no line is dropped, and NRU's bit of way 1 becomes one in both sets
     ∷ record {
@@ -96,6 +110,11 @@ drops =
     ∷ record {
       given = deedNumbers (policyDeed (nru 2 2) one policies 1 0 two);
       printed = policy 2 2 ++ (0 ∷ 0 ∷ 0 ∷ 0 ∷ 0 ∷ 0 ∷ 0 ∷ 0 ∷ 0 ∷ 5 ∷ 0 ∷ 7 ∷ 0 ∷ 1 ∷ 1 ∷ 0 ∷ 0 ∷ 3 ∷ 3 ∷ []);
+    }
+    -- one of the two lines is dirty
+    ∷ record {
+      given = answerOf (policyDeed (nru 2 2) one policies 1 0 (tablesOf (5 ∷ 6 ∷ 7 ∷ 8 ∷ []) (3 ∷ 3 ∷ []) (2 ∷ 1 ∷ []) (3 ∷ 3 ∷ [])) .answer);
+      printed = policy 2 1;
     }
     ∷ record { given = deedNumbers (policyDeed (nru 2 2) one policies 1 0x10001 two); printed = refused 8 ++ (domainNumbers one ++ tableNumbers two) }
     -- the record put back among the domains

@@ -18,4 +18,5 @@ pub mod DeedCases
 pub mod ByteCases
 pub mod Blocks
 pub mod ListCases
+pub mod DemandCases
 pub mod Cases

@@ -2,7 +2,7 @@
 -- file and listing", and from document 02's jobs 2, 4, 5 and 6. A test counts as 1 where it holds.
 use mathlib.Core.Bool.{Bool, true, false, cond}
 use mathlib.Core.List.{List, [], _∷_, _++_, map}
-use Prim.Native.Nat.{ℕ}
+use Prim.Native.Nat.{ℕ, _+_}
 use lib.ListN.{replicate}
 use Rattle.command.specs.Command.{Command, codeOf, argumentOf, commandOf, commandsOf, commandIs}
 use Rattle.command.specs.Kind.{Kind, access, flush, policy, unknown, kindOf, kindIs}
@@ -41,7 +41,10 @@ use Rattle.isolation.specs.StruckOut as StruckOut
 use Rattle.isolation.specs.Lookups.{lookupAt, visitedAt, visitsOf}
 use Rattle.switching.specs.Lookups.{ownCoreVisits}
 use Rattle.balance.specs.Tally.{tally, coreTally}
+use Rattle.locking.specs.Locked.{sameLine}
 use Rattle.locking.specs.Locking.{changes, flushes, accesses, toLocked, otherwise, rest}
+use Rattle.listing.specs.Listing as Listing
+use Rattle.listing.specs.Listing.{decimal}
 use Rattle.listing.specs.Before.{listingBefore}
 use Rattle.trace.specs.Calls.{Listed, listedOf, listOf}
 use Rattle.cases.specs.Case as Case
@@ -188,15 +191,21 @@ threeCodes = 256 ∷ 257 ∷ 4097 ∷ []
 abbrev sevens : ℕ → List ℕ
 sevens n = replicate n 7
 
+abbrev eights : ℕ → List ℕ
+eights n = replicate n 8
+
 abbrev struck : List Case
 struck =
     record { given = taken (purgeOf 0 threeCodes (1 ∷ 2 ∷ 3 ∷ []) (sevens 3) (8 ∷ 8 ∷ 8 ∷ [])); printed = 0 ∷ 2 ∷ 256 ∷ 4097 ∷ 7 ∷ 1 ∷ 3 ∷ 8 ∷ [] }
     -- core 31 of the 32 is in the list and goes to domain 0; core 32 is not, and its step is kept
     ∷ record { given = taken (purgeOf 1 (8479 ∷ 8480 ∷ []) (1 ∷ 2 ∷ []) (sevens 2) (sevens 2)); printed = 0 ∷ 1 ∷ 8480 ∷ 7 ∷ 2 ∷ 7 ∷ [] }
-    -- "Unequal array lengths are refused by 2": each of the other three
-    ∷ record { given = taken (purgeOf 0 threeCodes (1 ∷ 2 ∷ []) (sevens 3) (sevens 3)); printed = 2 ∷ 0 ∷ sevens 6 }
-    ∷ record { given = taken (purgeOf 0 threeCodes (1 ∷ 2 ∷ 3 ∷ []) (sevens 2) (sevens 3)); printed = 2 ∷ 0 ∷ sevens 5 }
-    ∷ record { given = taken (purgeOf 0 threeCodes (1 ∷ 2 ∷ 3 ∷ []) (sevens 3) (8 ∷ 8 ∷ 8 ∷ 8 ∷ [])); printed = 2 ∷ 0 ∷ 7 ∷ 7 ∷ 7 ∷ 8 ∷ 8 ∷ 8 ∷ 8 ∷ [] }
+    -- "Unequal array lengths are refused by 2": each of the other three too short, and too long
+    ∷ record { given = taken (purgeOf 0 threeCodes (1 ∷ 2 ∷ []) (sevens 3) (eights 3)); printed = 2 ∷ 0 ∷ (sevens 3 ++ eights 3) }
+    ∷ record { given = taken (purgeOf 0 threeCodes (1 ∷ 2 ∷ 3 ∷ 4 ∷ []) (sevens 3) (eights 3)); printed = 2 ∷ 0 ∷ (sevens 3 ++ eights 3) }
+    ∷ record { given = taken (purgeOf 0 threeCodes (1 ∷ 2 ∷ 3 ∷ []) (sevens 2) (eights 3)); printed = 2 ∷ 0 ∷ (sevens 2 ++ eights 3) }
+    ∷ record { given = taken (purgeOf 0 threeCodes (1 ∷ 2 ∷ 3 ∷ []) (sevens 4) (eights 3)); printed = 2 ∷ 0 ∷ (sevens 4 ++ eights 3) }
+    ∷ record { given = taken (purgeOf 0 threeCodes (1 ∷ 2 ∷ 3 ∷ []) (sevens 3) (eights 2)); printed = 2 ∷ 0 ∷ (sevens 3 ++ eights 2) }
+    ∷ record { given = taken (purgeOf 0 threeCodes (1 ∷ 2 ∷ 3 ∷ []) (sevens 3) (eights 4)); printed = 2 ∷ 0 ∷ (sevens 3 ++ eights 4) }
     ∷ record { given = taken (takenOf (record { number = 1; count = 2 }) (3 ∷ []) (4 ∷ [])); printed = 1 ∷ 2 ∷ 3 ∷ 4 ∷ [] }
     ∷ []
 
@@ -347,6 +356,8 @@ locks =
           ∷ flag (accesses 1 (λ n. true) (does 0 1 0)) ∷ flag (accesses 1 (λ n. false) (does 1 1 0)) ∷ [];
       printed = 1 ∷ 1 ∷ 0 ∷ 0 ∷ 0 ∷ [];
     }
+    -- "Lines have 64 bytes"
+    ∷ record { given = flag (sameLine 64 127) ∷ flag (sameLine 64 128) ∷ flag (sameLine 128 64) ∷ []; printed = 1 ∷ 0 ∷ 0 ∷ [] }
     -- line 8 is locked, line 6 is in the fill map, line 9 is not there
     ∷ record {
       given =
@@ -369,19 +380,22 @@ locks =
 
 -- ---- The call that lists a file
 
--- One set of two ways under NRU; domain 0 takes both ways and stores to line 1.
-abbrev file : List ℕ
-file =
-    1 ∷ 0 ∷ 2 ∷ 1 ∷ 2 ∷ 0 ∷ 0 ∷ 0 ∷ 0 ∷ 16 ∷ 0 ∷ 2 ∷ 3 ∷ 0 ∷ 3 ∷ 0 ∷ 0 ∷ 0 ∷ 0 ∷ 0 ∷ 64 ∷ 0 ∷ 0 ∷ 0 ∷ 0 ∷ 0 ∷ 0 ∷ 0 ∷ []
+-- One set of two ways under a rule; domain 0 takes both ways and stores to line 1.
+abbrev file : ℕ → List ℕ
+file rule =
+    1 ∷ 0 ∷ 2 ∷ rule ∷ 2 ∷ 0 ∷ 0 ∷ 0 ∷ 0 ∷ 16 ∷ 0 ∷ 2 ∷ 3 ∷ 0 ∷ 3 ∷ 0 ∷ 0 ∷ 0 ∷ 0 ∷ 0 ∷ 64 ∷ 0 ∷ 0 ∷ 0 ∷ 0 ∷ 0 ∷ 0 ∷ 0 ∷ []
 
--- 1 2 1 2; 0 policy 0 0; 1 fill 1; domain 0 0 1 0 0 0 1 0
-abbrev text : List ℕ
-text =
-    49 ∷ 32 ∷ 50 ∷ 32 ∷ 49 ∷ 32 ∷ 50 ∷ 10 ∷ 48 ∷ 32 ∷ 112 ∷ 111 ∷ 108 ∷ 105 ∷ 99 ∷ 121 ∷ 32 ∷ 48 ∷ 32 ∷ 48 ∷ 10 ∷ 49 ∷ 32 ∷ 102 ∷ 105 ∷ 108
+-- 1 2, the rule and 2; 0 policy 0 0; 1 fill 1; domain 0 0 1 0 0 0 1 0
+abbrev text : ℕ → List ℕ
+text rule =
+    49 ∷ 32 ∷ 50 ∷ 32 ∷ (48 + rule) ∷ 32 ∷ 50 ∷ 10 ∷ 48 ∷ 32 ∷ 112 ∷ 111 ∷ 108 ∷ 105 ∷ 99 ∷ 121 ∷ 32 ∷ 48 ∷ 32 ∷ 48 ∷ 10 ∷ 49 ∷ 32 ∷ 102 ∷ 105 ∷ 108
     ∷ 108 ∷ 32 ∷ 49 ∷ 10 ∷ 100 ∷ 111 ∷ 109 ∷ 97 ∷ 105 ∷ 110 ∷ 32 ∷ 48 ∷ 32 ∷ 48 ∷ 32 ∷ 49 ∷ 32 ∷ 48 ∷ 32 ∷ 48 ∷ 32 ∷ 48 ∷ 32 ∷ 49 ∷ 32 ∷ 48 ∷ 10 ∷ []
 
 abbrev listed : Listed → List ℕ
 listed l = l .count ∷ (l .output ++ tableNumbers (l .tables))
+
+abbrev toldLine : List ℕ → List ℕ
+toldLine answer = Listing.line (Listing.told answer)
 
 abbrev lentTables : Tables
 lentTables = tablesOf (5 ∷ 6 ∷ 7 ∷ []) (5 ∷ 6 ∷ []) (5 ∷ 6 ∷ []) (5 ∷ 6 ∷ [])
@@ -389,15 +403,43 @@ lentTables = tablesOf (5 ∷ 6 ∷ 7 ∷ []) (5 ∷ 6 ∷ []) (5 ∷ 6 ∷ []) (
 abbrev listings : List Case
 listings =
     -- the lines at the front of the output, and the tables at the front of the lent ones; what lies behind stays
-    record { given = listed (listOf file (replicate 54 9) lentTables); printed = 53 ∷ (text ++ (9 ∷ 0 ∷ 1 ∷ 7 ∷ 2 ∷ 6 ∷ 2 ∷ 6 ∷ 1 ∷ 6 ∷ [])) }
+    record { given = listed (listOf (file 1) (replicate 54 9) lentTables); printed = 53 ∷ (text 1 ++ (9 ∷ 0 ∷ 1 ∷ 7 ∷ 2 ∷ 6 ∷ 2 ∷ 6 ∷ 1 ∷ 6 ∷ [])) }
     -- "the one line `refused` and the number": refused 10; the tables stay
     ∷ record {
       given = listed (listOf [] (replicate 12 9) lentTables);
       printed = 11 ∷ 114 ∷ 101 ∷ 102 ∷ 117 ∷ 115 ∷ 101 ∷ 100 ∷ 32 ∷ 49 ∷ 48 ∷ 10 ∷ 9 ∷ 5 ∷ 6 ∷ 7 ∷ 5 ∷ 6 ∷ 5 ∷ 6 ∷ 5 ∷ 6 ∷ [];
     }
+    -- also where the file names a geometry: under 8 bytes
+    ∷ record {
+      given = listed (listOf (1 ∷ 0 ∷ 2 ∷ 1 ∷ []) [] lentTables);
+      printed = 11 ∷ 114 ∷ 101 ∷ 102 ∷ 117 ∷ 115 ∷ 101 ∷ 100 ∷ 32 ∷ 49 ∷ 48 ∷ 10 ∷ 5 ∷ 6 ∷ 7 ∷ 5 ∷ 6 ∷ 5 ∷ 6 ∷ 5 ∷ 6 ∷ [];
+    }
+    -- the words: hit 1; fill 1; evict 1 2 0; pass; flush 1 0; absent; policy 1 0; refused 1; select 1 2 3
+    ∷ record { given = toldLine (Case.hit 1) ++ toldLine (Case.fill 1); printed = 104 ∷ 105 ∷ 116 ∷ 32 ∷ 49 ∷ 10 ∷ 102 ∷ 105 ∷ 108 ∷ 108 ∷ 32 ∷ 49 ∷ 10 ∷ [] }
+    ∷ record {
+      given = toldLine (Case.evict 1 2 0) ++ toldLine Case.pass;
+      printed = 101 ∷ 118 ∷ 105 ∷ 99 ∷ 116 ∷ 32 ∷ 49 ∷ 32 ∷ 50 ∷ 32 ∷ 48 ∷ 10 ∷ 112 ∷ 97 ∷ 115 ∷ 115 ∷ 10 ∷ [];
+    }
+    ∷ record {
+      given = toldLine (Case.flush 1 0) ++ toldLine Case.absent;
+      printed = 102 ∷ 108 ∷ 117 ∷ 115 ∷ 104 ∷ 32 ∷ 49 ∷ 32 ∷ 48 ∷ 10 ∷ 97 ∷ 98 ∷ 115 ∷ 101 ∷ 110 ∷ 116 ∷ 10 ∷ [];
+    }
+    ∷ record {
+      given = toldLine (Case.policy 1 0) ++ toldLine (Case.refused 1);
+      printed = 112 ∷ 111 ∷ 108 ∷ 105 ∷ 99 ∷ 121 ∷ 32 ∷ 49 ∷ 32 ∷ 48 ∷ 10 ∷ 114 ∷ 101 ∷ 102 ∷ 117 ∷ 115 ∷ 101 ∷ 100 ∷ 32 ∷ 49 ∷ 10 ∷ [];
+    }
+    ∷ record {
+      given = toldLine (8 ∷ 1 ∷ 2 ∷ 3 ∷ []);
+      printed = 115 ∷ 101 ∷ 108 ∷ 101 ∷ 99 ∷ 116 ∷ 32 ∷ 49 ∷ 32 ∷ 50 ∷ 32 ∷ 51 ∷ 10 ∷ [];
+    }
+    -- the largest number of 64 bits
+    ∷ record {
+      given = decimal 18446744073709551615;
+      printed = 49 ∷ 56 ∷ 52 ∷ 52 ∷ 54 ∷ 55 ∷ 52 ∷ 52 ∷ 48 ∷ 55 ∷ 51 ∷ 55 ∷ 48 ∷ 57 ∷ 53 ∷ 53 ∷ 49 ∷ 54 ∷ 49 ∷ 53 ∷ [];
+    }
     ∷ record { given = listed (listedOf 3 (4 ∷ []) tables); printed = 3 ∷ 4 ∷ 5 ∷ 6 ∷ 7 ∷ 8 ∷ [] }
     -- the same by the run without core records
-    ∷ record { given = listingBefore file; printed = text }
+    ∷ record { given = listingBefore (file 1) ++ listingBefore (file 0); printed = text 1 ++ text 0 }
     ∷ record { given = listingBefore []; printed = 114 ∷ 101 ∷ 102 ∷ 117 ∷ 115 ∷ 101 ∷ 100 ∷ 32 ∷ 49 ∷ 48 ∷ 10 ∷ [] }
     ∷ []
 

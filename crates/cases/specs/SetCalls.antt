@@ -192,6 +192,10 @@ records =
     }
     -- "both maps are stored"; "Two zero maps remove the domain and zero its counts"; one that would pass the largest count stays
     ∷ record { given = domainNumbers (changedOf 0x20006 3 (domain 3 1 1 2 3 4 5 6 7)); printed = 6 ∷ 2 ∷ 1 ∷ 2 ∷ 3 ∷ 4 ∷ 5 ∷ 6 ∷ 10 ∷ [] }
+    ∷ record {
+      given = domainNumbers (changedOf 0xffffffff 1 (domain 3 1 1 2 3 4 5 6 7));
+      printed = 0xffff ∷ 0xffff ∷ 1 ∷ 2 ∷ 3 ∷ 4 ∷ 5 ∷ 6 ∷ 8 ∷ [];
+    }
     ∷ record { given = domainNumbers (changedOf 0 3 (domain 3 1 1 2 3 4 5 6 7)); printed = 0 ∷ 0 ∷ 0 ∷ 0 ∷ 0 ∷ 0 ∷ 0 ∷ 0 ∷ 0 ∷ [] }
     ∷ record {
       given = domainNumbers (changedOf 0x20006 1 (domain 3 1 1 2 3 4 5 6 largest));
@@ -223,6 +227,17 @@ verdicts =
       given = number (plru 1 4) 7 1 0xa000a ∷ number (nru 1 4) 7 1 0xa000a ∷ number (plru 1 3) 7 1 0x20002 ∷ [];
       printed = 9 ∷ 0 ∷ 1 ∷ [];
     }
+    -- 9 goes by fill maps: domain 1 has ways 0 and 2 in its hit map and way 0 alone in its fill map, and no node is free for that
+    ∷ record {
+      given = policyRefusalOf (plru 1 4) (record { maps = maps 0 0 ∷ maps 5 1 ∷ replicate 14 (maps 0 0) }) (counts 7) 1 0 0xa000a ∷ [];
+      printed = 0 ∷ [];
+    }
+    ∷ record { given = policyRefusalOf (plru 1 4) others (counts 7) 1 0 0x2000a ∷ []; printed = 0 ∷ [] }
+    -- way 15 of sixteen
+    ∷ record {
+      given = policyRefusalOf (nru 1 16) (record { maps = maps 0x8000 0x8000 ∷ replicate 15 (maps 0 0) }) (counts 7) 1 15 0x80008000 ∷ [];
+      printed = 8 ∷ [];
+    }
     -- a rule outside the limits, and domain 1 itself
     ∷ record {
       given =
@@ -243,6 +258,9 @@ madeNumbers m = let t = m .tables in m .number ∷ (t .tags ++ (t .valid ++ (t .
 abbrev lentTables : List ℕ → Tables
 lentTables valid = tablesOf (5 ∷ 6 ∷ []) valid (1 ∷ []) (7 ∷ [])
 
+abbrev number2 : ℕ → ℕ → ℕ → ℕ → ℕ
+number2 tags valid dirty words = sizesOf (lru 2 2) (record { tags = tags; valid = valid; dirty = dirty; words = words })
+
 abbrev places : List Case
 places =
     -- "Line = address / 64; set = line mod S; tag = line / S": line 7 of two sets
@@ -251,6 +269,13 @@ places =
     ∷ record { given = madeNumbers (freshOf (nru 1 2) (lentTables (3 ∷ []))); printed = 0 ∷ 0 ∷ 0 ∷ 0 ∷ 0 ∷ 3 ∷ [] }
     ∷ record { given = madeNumbers (freshOf (nru 1 2) (lentTables (3 ∷ 3 ∷ []))); printed = 2 ∷ 5 ∷ 6 ∷ 3 ∷ 3 ∷ 1 ∷ 7 ∷ [] }
     ∷ record { given = madeNumbers (freshOf (nru 3 2) (lentTables (3 ∷ []))); printed = 1 ∷ 5 ∷ 6 ∷ 3 ∷ 1 ∷ 7 ∷ [] }
+    -- "a table whose length is not exactly the one above": of two sets of two ways each too short by one, and each too long
+    ∷ record {
+      given =
+          number2 3 2 2 2 ∷ number2 4 1 2 2 ∷ number2 4 2 1 2 ∷ number2 4 2 2 1 ∷ number2 5 2 2 2 ∷ number2 4 3 2 2 ∷ number2 4 2 3 2
+          ∷ number2 4 2 2 3 ∷ [];
+      printed = replicate 8 2;
+    }
     -- numbers 1 and 2 of a call
     ∷ record {
       given =

@@ -16,8 +16,8 @@ use base.Logic.{SProp, ent, sep, ex, guard}
 use base.Fml.{Lft, GName, Fml, fsep, fat, fdead, flent}
 use prog.Wp.{Heap}
 use ghost.Atoms.{Atoms, sem}
-use types.Kit.{Given, ‵, _⊛_, some, later, _$_, _∵_, !, qed, move, use1, use2, use3, drop, rewrite, split, pick, check, fpick, fpack, fsplit, fjoin, feqI, feqL}
-use types.Kit.{frame, await, updating, now as at-once, show, done}
+use types.Kit.{Given, ‵, _⊛_, some, later, _$_, _∵_, !, qed, move, use1, use2, use3, drop, rewrite, split, pick, check}
+use types.Kit.{fpick, fpack, fsplit, fjoin, feqI, feqL, frame, await, updating, now as at-once, show, done}
 use types.SemTy.{cells, Arr}
 use types.Share.{arr-parts}
 use borrow.Table.Elements.{at, cut-app, join-app, same-len}
@@ -51,7 +51,8 @@ module _ {M : Type 1} (𝓤 : URA M) (H : Heap 𝓤) (A : Atoms 𝓤) (W : Given
   abbrev pub rest : ℕ → List X → Fml
   rest k xs = cells (mem R) (drop-list k xs) b (at zero (mem R .size) (length (take k xs)))
 
-  into-cells : (xs : List X) → Is (Array R N) xs (array-vals vals xs) → ent 𝓤 (sem 𝓤 H A (fat fullShare τ b zero (value R vals xs))) (sem 𝓤 H A (cells (mem R) xs b zero))
+  into-cells : (xs : List X) → Is (Array R N) xs (array-vals vals xs)
+      → ent 𝓤 (sem 𝓤 H A (fat fullShare τ b zero (value R vals xs))) (sem 𝓤 H A (cells (mem R) xs b zero))
   unfolding partOf
   into-cells xs is =
       qed W (‵ (fat fullShare τ b zero (value R vals xs)) ∷ []) ∵
@@ -73,17 +74,20 @@ module _ {M : Type 1} (𝓤 : URA M) (H : Heap 𝓤) (A : Atoms 𝓤) (W : Given
       rewrite ! 0 (λ (l : List X). ‵ (cells (mem R) l b zero)) (sym (take-append-drop k xs)) refl $
       use1 W (‵ (cells (mem R) (take k xs) b zero) ⊛ ‵ (rest k xs)) (cut-app 𝓤 H A (mem R) (take k xs) (drop-list k xs) b zero) $ split ! $
       use1 W (later (some (λ (γ : GName). ‵ (MutSlice ℓ κ R .own (at-list b γ (take k xs)) (sliceVal (b, zero) (length (take k xs)) ∷ []))
-      ⊛ ‵ (flent κ (Held R (length (take k xs)) b zero γ))))) (lends-slice 𝓤 H A W R ℓ κ (take k xs) b zero room) $ await ! tt $ pick ! (λ γ. split ! $ at-once ! $
-      show ! (Out ℓ κ k xs) γ $ frame ! $ frame ! $ done !)
+      ⊛ ‵ (flent κ (Held R (length (take k xs)) b zero γ))))) (lends-slice 𝓤 H A W R ℓ κ (take k xs) b zero room) $ await ! tt $
+      pick ! (λ γ. split ! $ at-once ! $ show ! (Out ℓ κ k xs) γ $ frame ! $ frame ! $ done !)
 
   pub comes-home : (κ : Lft) (γ : GName) (k : ℕ) (xs zs : List X) → length xs ≡ N
-      → ent 𝓤 (sep 𝓤 (A .dead κ) (sep 𝓤 (sem 𝓤 H A (flent κ (Held R (length (take k xs)) b zero γ))) (sep 𝓤 (sem 𝓤 H A (finally R γ zs)) (sem 𝓤 H A (rest k xs)))))
-      (H .⇛ (guard 𝓤 (Is (Array R N) (zs ++ drop-list k xs) (array-vals vals (zs ++ drop-list k xs))) (sem 𝓤 H A (fat fullShare τ b zero (value R vals (zs ++ drop-list k xs))))))
+      → ent 𝓤 (sep 𝓤 (A .dead κ) (sep 𝓤 (sem 𝓤 H A (flent κ (Held R (length (take k xs)) b zero γ)))
+      (sep 𝓤 (sem 𝓤 H A (finally R γ zs)) (sem 𝓤 H A (rest k xs)))))
+      (H .⇛ (guard 𝓤 (Is (Array R N) (zs ++ drop-list k xs) (array-vals vals (zs ++ drop-list k xs)))
+      (sem 𝓤 H A (fat fullShare τ b zero (value R vals (zs ++ drop-list k xs))))))
   unfolding partOf
   comes-home κ γ k xs zs long =
       let ys : List X = zs ++ drop-list k xs in
       qed W (‵ (fdead κ) ∷ ‵ (flent κ (Held R (length (take k xs)) b zero γ)) ∷ ‵ (finally R γ zs) ∷ ‵ (rest k xs) ∷ []) ∵ updating ! $
-      use3 W (later (‵ (Arr (mem R) (length (take k xs)) .lies zs b zero))) (slice-back 𝓤 H A W R κ γ zs (length (take k xs)) b zero) $ await ! tt $ fsplit ! $ feqL ! (λ e.
+      use3 W (later (‵ (Arr (mem R) (length (take k xs)) .lies zs b zero))) (slice-back 𝓤 H A W R κ γ zs (length (take k xs)) b zero) $
+      await ! tt $ fsplit ! $ feqL ! (λ e.
       rewrite ! 1 (λ (j : ℕ). ‵ (cells (mem R) (drop-list k xs) b (at zero (mem R .size) j))) (sym e) refl $
       use2 W (‵ (cells (mem R) ys b zero)) (join-app 𝓤 H A (mem R) zs (drop-list k xs) b zero) $
       rewrite ! 0 (λ (F : Fml). ‵ F) (sym (parts-cells R fullShare ys b zero)) refl $ feqI ! ℕ (length ys) N (same-len k xs zs e ∙ long) $ fjoin ! $

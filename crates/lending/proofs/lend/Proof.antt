@@ -442,7 +442,8 @@ module _ {M : Type 1} (𝓤 : URA M) (H : Heap 𝓤) (A : Atoms 𝓤) (W : Given
         -- the end: the answer and the list become the result, and the locals go
         leaves : (ν : ℕ) (γ : GName) (r : Stepped) (ws : Ends ν b γ) (ys : List Core) → length (ws .1 .0) ≡ length (tags .now)
             → length (ws .1 .1 .0) ≡ length (valid .now) → length (ws .1 .1 .1 .0) ≡ length (dirty .now) → length (ws .1 .1 .1 .1 .0) ≡ length (words .now)
-            → IsStepped r → IsList ys → (resultOf r (last-tables ν b γ ws) (take n ys) ≡ result) × (drop-list n ys ≡ drop-list n list) → From (left ν b γ ws) (the-value (list-val ys) ∷ the-value (stepped-val r) ∷ lent-on []) parts.t-13
+            → IsStepped r → IsList ys → (resultOf r (last-tables ν b γ ws) (take n ys) ≡ result) × (drop-list n ys ≡ drop-list n list)
+            → From (left ν b γ ws) (the-value (list-val ys) ∷ the-value (stepped-val r) ∷ lent-on []) parts.t-13
         leaves ν γ r ws ys e₀ e₁ e₂ e₃ stepped-is ys-is said =
             let lent : Lent = record { stepped = r; list = ys } in
             let lent-is = lent-owes r ys stepped-is ys-is in
@@ -451,7 +452,8 @@ module _ {M : Type 1} (𝓤 : URA M) (H : Heap 𝓤) (A : Atoms 𝓤) (W : Given
             sets ! (agg ! (and-then ! (read ! (13 behind 5) refl) (and-then ! (read ! (24 behind 5) refl) (no-more !)))) (0 behind 5) refl
             (LL.lawful L.the-type L′.the-laws 𝓤 H A W .typed lent _ lent-is .0) $
             returns ! (look ! (0 behind 5) refl) $ group ! 5 $
-            frees-all ! parts.locals bs (stand (the-value (lent-val lent)) (the-value (list-val ys) ∷ the-value (stepped-val r) ∷ lent-on (the-value (field-val ys) ∷ []))) $
+            frees-all ! parts.locals bs (stand (the-value (lent-val lent))
+            (the-value (list-val ys) ∷ the-value (stepped-val r) ∷ lent-on (the-value (field-val ys) ∷ []))) $
             by ! (exits ν b γ lent ws e₀ e₁ e₂ e₃ lent-is said)
 
         -- the answer is there: the call's lifetime ends, the records come back, and the list is whole again
@@ -467,7 +469,8 @@ module _ {M : Type 1} (𝓤 : URA M) (H : Heap 𝓤) (A : Atoms 𝓤) (W : Given
             move ! (5 ∷ []) $ split ! $ move ! (1 ∷ []) $ split ! $ move ! (1 ∷ []) $ split ! $ move ! (1 ∷ []) $ split ! $ move ! (1 ∷ []) $ split ! $
             -- [the call's token; true; the other tokens, the last first; the last records, words, dirty, valid, tags; the lender's part; the rest; the locals]
             lft-end ! tt $ move ! (6 ∷ 12 ∷ []) $ join ! $ move ! (1 ∷ 11 ∷ 0 ∷ []) $
-            use3 W (later (given (IsList (last-records ν b γ ws ++ drop-list n list)) (‵ (fat fullShare (tyArray R′.mir 33) b 0 (list-val (last-records ν b γ ws ++ drop-list n list))))))
+            use3 W (later (given (IsList (last-records ν b γ ws ++ drop-list n list))
+            (‵ (fat fullShare (tyArray R′.mir 33) b 0 (list-val (last-records ν b γ ws ++ drop-list n list))))))
             (comes-home 𝓤 H A W R.the-row tt (LL.makes R.the-type R′.the-plain 𝓤 H A) core-vals (LL.tells R.the-type R′.the-laws) 33 b (ν ∷ []) γ n list
             (last-records ν b γ ws) list-long) $ await ! tt $ learn ! (λ ys-is.
             -- [the list's cell; true; the other tokens, the last first; the last words, dirty, valid, tags; the locals]
@@ -503,7 +506,8 @@ module _ {M : Type 1} (𝓤 : URA M) (H : Heap 𝓤) (A : Atoms 𝓤) (W : Given
             lft-new ! tt (λ ν. move ! ((12 behind 2) ∷ []) $
             use1 W (later (some (λ (γ : GName). ‵ (MutSlice (named 4) (ν ∷ []) R.the-row .own (records ν b γ) (slice-vals (records ν b γ)))
             ⊛ (‵ (flent (ν ∷ []) (Held R.the-row (length (take n list)) b 0 γ)) ⊛ ‵ (behind-it b)))))
-            (goes-out 𝓤 H A W R.the-row tt (LL.makes R.the-type R′.the-plain 𝓤 H A) core-vals (LL.tells R.the-type R′.the-laws) 33 b (named 4) (ν ∷ []) n list list-is room) $
+            (goes-out 𝓤 H A W R.the-row tt (LL.makes R.the-type R′.the-plain 𝓤 H A) core-vals (LL.tells R.the-type R′.the-laws) 33 b
+            (named 4) (ν ∷ []) n list list-is room) $
             await ! tt $ pick ! (λ γ. split ! $ move ! (1 ∷ []) $ split ! $
             -- [the lender's part; the rest; the records; the call's token; the tables; the locals]
             move ! (3 ∷ 2 ∷ 4 ∷ []) $ use3 W (raw (Steps 𝓤 H A mem run .pre (to-step ν b γ))) (asks ν b γ) $
