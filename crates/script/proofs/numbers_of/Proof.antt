@@ -1,71 +1,60 @@
 -- `script::numbers_of` meets its contract.
-use Prim.Native.Nat.{_-_, _<_}
-use native.Mathlib.Omega.{arith}
-use lib.ListN.{length}
+use Rattle.script.proofs.ScriptLaws.{numbers-are}
 use Rattle.script.proofs.numbers_of.Statement.{statement}
 use Rattle.script.proofs.numbers_of.Tie as tie
 
-abbrev Inv-loop : tie.InvT-loop
-Inv-loop line numbers₀ place₀ i₀ numbers place i = place < 5
+behind-requires : tie.Need-behind-requires
+behind-requires c κs = tt
 
-abbrev μ-loop : tie.MeasureT-loop
-μ-loop line numbers₀ place₀ i₀ numbers place i = length line - i
+behind-requires-2 : tie.Need-behind-requires-2
+behind-requires-2 c κs = tt
 
-loop-holds : tie.Need-loop-holds Inv-loop μ-loop
-loop-holds c = omega arith
+behind-requires-3 : tie.Need-behind-requires-3
+behind-requires-3 c κs = tt
 
-shared-slice-read-place-after : tie.Need-shared-slice-read-place-after Inv-loop μ-loop
-shared-slice-read-place-after c = omega arith
+behind-requires-4 : tie.Need-behind-requires-4
+behind-requires-4 c κs = tt
 
-place-after-requires : tie.Need-place-after-requires Inv-loop μ-loop
-place-after-requires c κs = omega arith
+number-at-requires : tie.Need-number-at-requires
+number-at-requires c κs = tt
 
-mul-joined : tie.Need-mul-joined Inv-loop μ-loop
-mul-joined c = omega arith
+number-at-requires-2 : tie.Need-number-at-requires-2
+number-at-requires-2 c κs = tt
 
-array-read-joined : tie.Need-array-read-joined Inv-loop μ-loop
-array-read-joined c = omega arith
+number-at-requires-3 : tie.Need-number-at-requires-3
+number-at-requires-3 c κs = tt
 
-shared-slice-read-joined : tie.Need-shared-slice-read-joined Inv-loop μ-loop
-shared-slice-read-joined c = omega arith
+number-at-requires-4 : tie.Need-number-at-requires-4
+number-at-requires-4 c κs = tt
 
-joined-requires : tie.Need-joined-requires Inv-loop μ-loop
-joined-requires c κs = tt
+number-at-requires-5 : tie.Need-number-at-requires-5
+number-at-requires-5 c κs = tt
 
-mul-numbers : tie.Need-mul-numbers Inv-loop μ-loop
-mul-numbers c = omega arith
-
-array-write-numbers : tie.Need-array-write-numbers Inv-loop μ-loop
-array-write-numbers c = omega arith
-
-add-i : tie.Need-add-i Inv-loop μ-loop
-add-i c = omega arith
-
-loop-less : tie.Need-loop-less Inv-loop μ-loop
-loop-less c = omega arith
-
-loop-again : tie.Need-loop-again Inv-loop μ-loop
-loop-again c = omega arith
-
-returns : tie.Need-returns Inv-loop μ-loop
-returns c = tt
+returns : tie.Need-returns
+returns c =
+    let placed = c .before .before .before .before .before in
+    numbers-are (placed .before .before .before .before .before .args .line .now)
+    (placed .before .before .before .behind .ensures)
+    (placed .before .before .behind2 .ensures)
+    (placed .before .behind3 .ensures)
+    (placed .behind4 .ensures)
+    (c .before .before .before .before .number-at .ensures)
+    (c .before .before .before .number-at2 .ensures)
+    (c .before .before .number-at3 .ensures)
+    (c .before .number-at4 .ensures)
+    (c .number-at5 .ensures)
 
 pub numbers-of-spec : {M : Type 1} → statement M
 numbers-of-spec =
     tie.close
     (tie.spec
-    Inv-loop
-    μ-loop
-    loop-holds
-    shared-slice-read-place-after
-    place-after-requires
-    mul-joined
-    array-read-joined
-    shared-slice-read-joined
-    joined-requires
-    mul-numbers
-    array-write-numbers
-    add-i
-    loop-less
-    loop-again
+    behind-requires
+    behind-requires-2
+    behind-requires-3
+    behind-requires-4
+    number-at-requires
+    number-at-requires-2
+    number-at-requires-3
+    number-at-requires-4
+    number-at-requires-5
     returns)

@@ -2,6 +2,7 @@
 use Prim.Native.Nat.{_-_, _<_, _≤_}
 use native.Mathlib.Omega.{arith}
 use lib.ListN.{length}
+use Rattle.script.proofs.ScriptLaws.{line-grows}
 use Rattle.testbench.proofs.run.Statement.{statement}
 use Rattle.testbench.proofs.run.Tie as tie
 
@@ -15,22 +16,28 @@ loop-holds : tie.Need-loop-holds Inv-loop μ-loop
 loop-holds c = omega arith
 
 line-after-requires : tie.Need-line-after-requires Inv-loop μ-loop
-line-after-requires c κs = omega arith
+line-after-requires c κs = tt
+
+-- The next line begins further on.
+further : (c : tie.After-line-after Inv-loop μ-loop) → c .before .before .loop .from < c .line-after .result
+further c =
+    let grows = line-grows (c .before .before .before .before .args .text .now) (c .before .before .loop .from) (c .before .loop-test .taken) in
+    omega (arith, grows, c .line-after .ensures .0)
 
 sub-do-line : tie.Need-sub-do-line Inv-loop μ-loop
-sub-do-line c = omega arith
+sub-do-line c = omega (arith, further (c .before .before))
 
 part-do-line-start : tie.Need-part-do-line-start Inv-loop μ-loop
-part-do-line-start c = omega arith
+part-do-line-start c = omega (arith, further (c .before .before))
 
 part-do-line-end : tie.Need-part-do-line-end Inv-loop μ-loop
 part-do-line-end c = omega arith
 
 do-line-requires : tie.Need-do-line-requires Inv-loop μ-loop
-do-line-requires c κs = omega arith
+do-line-requires c κs = omega (arith, further (c .before .before .before))
 
 loop-less : tie.Need-loop-less Inv-loop μ-loop
-loop-less c = omega arith
+loop-less c = omega (arith, further (c .before .before .before .before))
 
 loop-again : tie.Need-loop-again Inv-loop μ-loop
 loop-again c = omega arith
