@@ -14,7 +14,7 @@ use Rattle.script.specs.Script.{behindFirst, lineAfter, withByte, number
 
 -- ---- the place behind a byte
 
--- Where the byte stands, its place is the one before.
+-- Where the byte stands, the place behind it is the next.
 found : (stop : ℕ) (bytes : List ℕ) (i : ℕ) → i < length bytes → getD bytes i 0 ≡ stop → suc i ≡ behindFirst stop bytes i
 unfolding behindFirst
 found stop [] i h e = absurd (not-suc-le-zero h)
