@@ -16,6 +16,9 @@ use Rattle.runs.proofs.put_u32s.Reads as RunsPutU32s
 use Rattle.runs.proofs.put_u64s.Reads as RunsPutU64s
 use Rattle.runs.proofs.read_u32s.Reads as RunsReadU32s
 use Rattle.runs.proofs.read_u64s.Reads as RunsReadU64s
+use Rattle.script.proofs.line_after.Reads as ScriptLineAfter
+use Rattle.script.proofs.numbers_of.Reads as ScriptNumbersOf
+use Rattle.script.specs.Script.{lineAfter, numbersOf}
 use Rattle.runs.specs.Runs.{putRun, readRun}
 use Rattle.steps.specs.Step.{tablesOf}
 use Rattle.streams.proofs.read_file.Reads as StreamsReadFile
@@ -26,6 +29,8 @@ use Rattle.tracefile.proofs.refusal.Reads as TracefileRefusal
 use Rattle.tracefile.proofs.steps.Reads as TracefileSteps
 use Rattle.tracefile.specs.File.{commandAt, fileRefusal, stepCount}
 use denote.Ref.{now}
+use Prim.Native.Nat.{_≤_}
+use lib.ListN.{length}
 use mathlib.Core.Path.{_≡_}
 
 -- ---- `endian`
@@ -90,6 +95,15 @@ runs-put-u64s = exactly
 
 streams-read-file : Held StreamsReadFile.Asked StreamsReadFile.Learnt (λ κs a r e. let file′ = e .0 in Counts (r .count) (now file′))
 streams-read-file = exactly
+
+-- ---- `script`
+
+script-line-after : Held ScriptLineAfter.Asked ScriptLineAfter.Learnt
+    (λ κs a r e. let script = a .0 in let from = a .1 .0 in (r ≡ lineAfter (now script) from) × (r ≤ length (now script)))
+script-line-after = exactly
+
+script-numbers-of : Held ScriptNumbersOf.Asked ScriptNumbersOf.Learnt (λ κs a r e. let line = a .0 in r ≡ numbersOf (now line))
+script-numbers-of = exactly
 
 -- ---- `tracefile`
 
