@@ -46,8 +46,13 @@ sizes =
 
 abbrev treeCalls : List Case
 treeCalls =
+    -- "node i has children 2i + 1 (left, lower ways) and 2i + 2 (right)": above place 5 is node 2, and above that node 0
+    record {
+      given = flag (TreeRule.passes 0 1 5) ∷ flag (TreeRule.passes 1 2 5) ∷ flag (TreeRule.passes 1 0 5) ∷ flag (TreeRule.passes 2 0 5) ∷ [];
+      printed = 0 ∷ 1 ∷ 0 ∷ 1 ∷ [];
+    }
     -- map 15, node 0 pointing right; map 9, whose nodes 1 and 2 are forced left and right; map 2
-    record { given = Tree.victimOf 4 1 15 ∷ Tree.victimOf 4 1 9 ∷ Tree.victimOf 4 6 9 ∷ Tree.victimOf 4 0 2 ∷ []; printed = 2 ∷ 3 ∷ 0 ∷ 1 ∷ [] }
+    ∷ record { given = Tree.victimOf 4 1 15 ∷ Tree.victimOf 4 1 9 ∷ Tree.victimOf 4 6 9 ∷ Tree.victimOf 4 0 2 ∷ []; printed = 2 ∷ 3 ∷ 0 ∷ 1 ∷ [] }
     -- no W, and a map with a way of W or higher
     ∷ record { given = Tree.victimOf 3 2 6 ∷ Tree.victimOf 4 7 0x1c ∷ []; printed = 0 ∷ 0 ∷ [] }
     -- "so that it points away from w; no other bit moves": ways 0 and 3, and way 2 outside the map
