@@ -147,6 +147,15 @@ fn low(n: u64) -> u8 {
     (n % 256) as u8
 }
 
+// The geometry that the steps are told of.
+fn told_of(sets: usize) -> Geometry {
+    Geometry {
+        sets,
+        ways: 4,
+        rule: 0,
+    }
+}
+
 // A step, and what it did.
 fn step(
     bench: Bench,
@@ -157,14 +166,9 @@ fn step(
     numbers: [u64; 5],
 ) -> Bench {
     let old = bench.list;
-    let g = Geometry {
-        sets: bench.sets,
-        ways: 4,
-        rule: 0,
-    };
     let n = at_most(bench.count, 33);
     let done = lend(
-        g,
+        told_of(bench.sets),
         tags,
         valid,
         dirty,
