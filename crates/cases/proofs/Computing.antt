@@ -21,7 +21,7 @@ use Rattle.geometry.specs.Geometry.{sizesOf}
 use Rattle.fresh.specs.Calls.{freshOf}
 use Rattle.demand.specs.Free.{digit, someIn, freeFrom, isFree}
 use Rattle.demand.specs.Order.{freshWord, wayAt, howMany, firstOf, isOrder, placeOf as placeIn}
-use Rattle.demand.specs.Demand.{struckOut, verdictOf, isOwn, isPair}
+use Rattle.demand.specs.Demand.{fresh as freshState, domainAt, struckOut, verdictOf, isOwn, isPair}
 use Rattle.reached.specs.Balance.{held}
 use Rattle.steps.specs.Deed.{onRow, workAt, unless, lineDeed, dropMap, dropsAmong, dropsBy, policyDeed, putDeed}
 use Rattle.endian.specs.Bytes.{value, digits, field, putField, cut, joined}
@@ -33,7 +33,8 @@ use Rattle.command.specs.Command.{codeOf, commandOf, commandsOf}
 use Rattle.selectors.specs.Selectors.{namesCore, coreless, recordBy}
 use Rattle.purge.specs.Purge.{keeps, keepsBy, corePurge}
 use Rattle.purge.specs.Calls.{purgeOf}
-use Rattle.isolation.specs.StruckOut.{numberOf}
+use Rattle.isolation.specs.StruckOut.{answersTo, numberOf, verdicts}
+use Rattle.switching.specs.StruckOut.{coreAnswersTo, coreVerdicts}
 use Rattle.isolation.specs.Lookups.{lookupAt, visitedAt, visitsOf}
 use Rattle.switching.specs.Lookups.{alongBy, coreAlong, ownCoreVisits}
 use Rattle.balance.specs.Tally.{told, removes, tallied, tally, talliedBy, coreTally}
@@ -46,14 +47,15 @@ use Rattle.cores.specs.Calls.{turnOf}
 use Rattle.cores.proofs.Computing.{coreComputing}
 
 unfoldable pub callsComputing : Unit {0}
-unfolding lowest put takes mask policy masked maskedVictim own Tree.victimOf Tree.touchOf Tree.changeOf Tree.resetOf Tree.ownOf Tree.sharesOf NruRule.own
-    Nru.victimOf Nru.touchOf Nru.changeOf Nru.resetOf Nru.ownOf Nru.freshOf Lru.victimOf Lru.touchOf Lru.ahead Lru.changeOf Lru.resetOf Lru.ownOf
-    Lru.freshOf bit64 Alone.victimOf Alone.touchOf Alone.freshOf Alone.ownOf Alone.sharesOf changeOf accessOf flushOf useOf clean sweepOf drops sweptLines
-    sweepBy addedTo linesAmong mapsFrom policiesOf readBy usedOf changedOf policyRefusalOf placeOf sizesOf freshOf value digits field putField cut joined
-    numbers bytesOf readRun putRun lastSteps badFile fileRefusal sizes countsFrom countsIn domainsFrom stateIn stateOf headOf countsBytes stateBytes blockOf
-    lengthRefusal blockRefusal freshCall stepTurn stateAfter padded numberIn filled stepCall codeOf commandOf commandsOf namesCore coreless recordBy keeps
-    keepsBy corePurge purgeOf numberOf lookupAt visitedAt visitsOf alongBy coreAlong ownCoreVisits told removes tallied tally talliedBy coreTally locked
-    lockedIn isLocked strike decimalBy line toldOf answerLines domainLine domainPart domainLines runLines listing linesBefore listingBefore lastTables listOf
-    turnOf onRow workAt unless lineDeed dropMap dropsAmong dropsBy policyDeed putDeed held digit someIn freeFrom isFree freshWord wayAt
-    howMany firstOf isOrder placeIn struckOut verdictOf isOwn isPair coreComputing
+unfolding lowest put takes mask policy masked maskedVictim own Tree.victimOf Tree.touchOf Tree.changeOf Tree.resetOf Tree.ownOf Tree.sharesOf
+    NruRule.own Nru.victimOf Nru.touchOf Nru.changeOf Nru.resetOf Nru.ownOf Nru.freshOf Lru.victimOf Lru.touchOf Lru.ahead Lru.changeOf Lru.resetOf
+    Lru.ownOf Lru.freshOf bit64 Alone.victimOf Alone.touchOf Alone.freshOf Alone.ownOf Alone.sharesOf changeOf accessOf flushOf useOf clean sweepOf
+    drops sweptLines sweepBy addedTo linesAmong mapsFrom policiesOf readBy usedOf changedOf policyRefusalOf placeOf sizesOf freshOf value digits field
+    putField cut joined numbers bytesOf readRun putRun lastSteps badFile fileRefusal sizes countsFrom countsIn domainsFrom stateIn stateOf headOf
+    countsBytes stateBytes blockOf lengthRefusal blockRefusal freshCall stepTurn stateAfter padded numberIn filled stepCall codeOf commandOf commandsOf
+    namesCore coreless recordBy keeps keepsBy corePurge purgeOf answersTo numberOf verdicts coreAnswersTo coreVerdicts lookupAt visitedAt visitsOf
+    alongBy coreAlong ownCoreVisits told removes tallied tally talliedBy coreTally locked lockedIn isLocked strike decimalBy line toldOf answerLines
+    domainLine domainPart domainLines runLines listing linesBefore listingBefore lastTables listOf turnOf onRow workAt unless lineDeed dropMap
+    dropsAmong dropsBy policyDeed putDeed held digit someIn freeFrom isFree freshWord wayAt howMany firstOf isOrder placeIn freshState domainAt
+    struckOut verdictOf isOwn isPair coreComputing
 callsComputing = tt

@@ -158,6 +158,7 @@ blocks =
     ∷ record { given = called (stepCall bytesBefore lent 0 33 0); printed = 4 ∷ (bytesBefore ++ answer 7 4 0 0) }
     -- "12, block or answer of a wrong length", "an answer of a wrong length is not written"
     ∷ record { given = called (stepCall bytesBefore (replicate 31 170) 0 1 (line 9)); printed = 12 ∷ (bytesBefore ++ replicate 31 170) }
+    ∷ record { given = called (stepCall bytesBefore (replicate 33 170) 0 1 (line 9)); printed = 12 ∷ (bytesBefore ++ replicate 33 170) }
     ∷ record { given = stateNumbers (stateAfter bytesBefore 31 0 1 (line 9)); printed = stateNumbers before }
     ∷ record { given = called (stepCall (bytesBefore ++ (0 ∷ [])) lent 0 1 (line 9)); printed = 12 ∷ ((bytesBefore ++ (0 ∷ [])) ++ answer 7 12 0 0) }
     -- "or at a step a zero byte that is not zero": the first and the last of the four

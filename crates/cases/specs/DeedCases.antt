@@ -116,6 +116,13 @@ drops =
       given = answerOf (policyDeed (nru 2 2) one policies 1 0 (tablesOf (5 ∷ 6 ∷ 7 ∷ 8 ∷ []) (3 ∷ 3 ∷ []) (2 ∷ 1 ∷ []) (3 ∷ 3 ∷ [])) .answer);
       printed = policy 2 1;
     }
+    -- a removal drops way 1 in three of four sets, twice with a dirty line
+    ∷ record {
+      given =
+          deedNumbers (policyDeed (nru 4 2) one policies 1 0
+          (tablesOf (1 ∷ 2 ∷ 3 ∷ 4 ∷ 5 ∷ 6 ∷ 7 ∷ 8 ∷ []) (3 ∷ 2 ∷ 1 ∷ 3 ∷ []) (3 ∷ 0 ∷ 2 ∷ 2 ∷ []) (replicate 4 0)));
+      printed = policy 3 2 ++ (replicate 9 0 ++ (1 ∷ 0 ∷ 3 ∷ 0 ∷ 5 ∷ 0 ∷ 7 ∷ 0 ∷ 1 ∷ 0 ∷ 1 ∷ 1 ∷ 1 ∷ 0 ∷ 0 ∷ 0 ∷ 2 ∷ 2 ∷ 2 ∷ 2 ∷ []));
+    }
     ∷ record { given = deedNumbers (policyDeed (nru 2 2) one policies 1 0x10001 two); printed = refused 8 ++ (domainNumbers one ++ tableNumbers two) }
     -- the record put back among the domains
     ∷ record {

@@ -3,11 +3,14 @@
 use mathlib.Core.Bool.{Bool, cond}
 use mathlib.Core.List.{List, [], _∷_, _++_}
 use Prim.Native.Nat.{ℕ}
+use lib.ListN.{length, replicate}
 use Rattle.waymap.specs.Bits.{word}
 use Rattle.command.specs.Command.{Command}
 use Rattle.demand.specs.Free.{digit, someIn, isFree}
 use Rattle.demand.specs.Order.{freshWord, wayAt, isOrder, placeOf}
-use Rattle.demand.specs.Demand.{Verdict, accepted, refused, struckOut, verdictOf, isOwn, isPair}
+use Rattle.geometry.specs.declared.Geometry.{Geometry}
+use Rattle.domains.specs.declared.Domain.{Domain}
+use Rattle.demand.specs.Demand.{Verdict, accepted, refused, fresh, domainAt, struckOut, verdictOf, isOwn, isPair}
 use Rattle.cases.specs.Case.{Case}
 use Rattle.cases.specs.States.{plru, nru, lru}
 
@@ -63,6 +66,14 @@ abbrev verdict : Verdict → List ℕ
 verdict accepted = 0 ∷ []
 verdict (refused n) = 1 ∷ n ∷ []
 
+abbrev freshNumbers : Geometry → List ℕ
+freshNumbers g = let t = fresh g .tables in t .tags ++ (t .valid ++ (t .dirty ++ t .words))
+
+abbrev domainNumbers : Domain → List ℕ
+domainNumbers x =
+    let c = x .counts in
+    x .hit ∷ x .fill ∷ c .hits ∷ c .misses ∷ c .evicted ∷ c .written ∷ c .flushed ∷ c .fills ∷ c .dropped ∷ []
+
 abbrev seen : List Case
 seen =
     -- "without the accesses and flushes (kinds 0 to 3) that belong to another domain; every other step stays"
@@ -70,6 +81,12 @@ seen =
       given = steps (struckOut 0 (does 1 0 9 ∷ does 1 3 9 ∷ does 1 4 9 ∷ does 0 3 9 ∷ does 16 1 9 ∷ does 16 16 9 ∷ []));
       printed = 1 ∷ 4 ∷ 9 ∷ 0 ∷ 3 ∷ 9 ∷ 16 ∷ 16 ∷ 9 ∷ [];
     }
+    -- "Fresh: all zero, except that under NRU the low W bits of each replacement word are one", and under true LRU the fresh order
+    ∷ record {
+      given = freshNumbers (plru 2 4) ++ (freshNumbers (nru 2 4) ++ freshNumbers (lru 2 4));
+      printed = replicate 14 0 ++ (replicate 12 0 ++ (15 ∷ 15 ∷ (replicate 12 0 ++ (0x0123 ∷ 0x0123 ∷ []))));
+    }
+    ∷ record { given = length (fresh (nru 1 2) .domains .records) ∷ domainNumbers (domainAt 15 (fresh (nru 1 2))); printed = 16 ∷ replicate 9 0 }
     -- "whether it is accepted, and the number if it is not"
     ∷ record {
       given = verdict (verdictOf (7 ∷ 9 ∷ [])) ++ (verdict (verdictOf (6 ∷ 7 ∷ 7 ∷ [])) ++ (verdict (verdictOf []) ++ verdict (verdictOf (7 ∷ []))));

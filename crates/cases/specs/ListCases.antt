@@ -39,9 +39,10 @@ use Rattle.cores.specs.Calls.{Turn, replyOf, lentOf, resultOf, turnOf, turnIs}
 use Rattle.cores.specs.declared.Reply.the-variants.{Cache, Select}
 use Rattle.isolation.specs.StruckOut as StruckOut
 use Rattle.isolation.specs.Lookups.{lookupAt, visitedAt, visitsOf}
+use Rattle.switching.specs.StruckOut as Switching
 use Rattle.switching.specs.Lookups.{ownCoreVisits}
 use Rattle.balance.specs.Tally.{tally, coreTally}
-use Rattle.locking.specs.Locked.{sameLine}
+use Rattle.locking.specs.Locked.{locked, sameLine}
 use Rattle.locking.specs.Locking.{changes, flushes, accesses, toLocked, otherwise, rest}
 use Rattle.listing.specs.Listing as Listing
 use Rattle.listing.specs.Listing.{decimal}
@@ -281,6 +282,13 @@ seen =
           (lentOf (twoSets .tables) (twoSets .domains) (freshCores 1));
       printed = 3 ∷ 3 ∷ 3 ∷ [];
     }
+    -- "for each policy change of another domain": domain 1 loads, asks for domain 0's way, has an unknown kind, and asks for its own way
+    ∷ record {
+      given =
+          StruckOut.verdicts (nru 1 2) 0 (loads 1 (line 6) ∷ takes 1 3 3 ∷ takes 0 3 3 ∷ does 1 17 0 ∷ takes 1 2 2 ∷ []) cache
+          ++ Switching.coreVerdicts (nru 1 2) 0 (loads 1 (line 6) ∷ takes 1 3 3 ∷ takes 0 3 3 ∷ does 1 17 0 ∷ takes 1 2 2 ∷ []) (record { cache = cache; cores = [] });
+      printed = 8 ∷ 0 ∷ 8 ∷ 0 ∷ [];
+    }
     -- an answer's number, if it is a refusal
     ∷ record {
       given = StruckOut.numberOf [] ∷ StruckOut.numberOf (7 ∷ []) ∷ StruckOut.numberOf (7 ∷ 9 ∷ []) ∷ StruckOut.numberOf (6 ∷ 9 ∷ 1 ∷ []) ∷ [];
@@ -340,6 +348,10 @@ tallies =
 abbrev lockedState : State
 lockedState = row (5 ∷ 6 ∷ 7 ∷ 8 ∷ []) 15 0 0 (domain 0 0 0 0 0 0 0 0 0 ∷ domain 15 6 1 2 3 4 5 6 7 ∷ [])
 
+-- Whether the line in a way is locked for a domain with hit map 14 and fill map 6, in a set with a valid map.
+abbrev lockedWay : ℕ → ℕ → Bool
+lockedWay valid w = locked (record { hit = 14; fill = 6 }) (record { tags = 5 ∷ 6 ∷ 7 ∷ 8 ∷ []; valid = valid; dirty = 0; word = 0 }) w
+
 abbrev locks : List Case
 locks =
     -- a policy change is of kind 16, a flush of kind 3, an access of kinds 0 to 2
@@ -355,6 +367,12 @@ locks =
           flag (accesses 1 (λ n. true) (does 1 0 0)) ∷ flag (accesses 1 (λ n. true) (does 1 2 0)) ∷ flag (accesses 1 (λ n. true) (does 1 3 0))
           ∷ flag (accesses 1 (λ n. true) (does 0 1 0)) ∷ flag (accesses 1 (λ n. false) (does 1 1 0)) ∷ [];
       printed = 1 ∷ 1 ∷ 0 ∷ 0 ∷ 0 ∷ [];
+    }
+    -- a valid line of the hit map outside the fill map: way 0 is not in hit map 14, ways 1 and 2 are in fill map 6, and way 3 is locked where it is valid
+    ∷ record {
+      given =
+          flag (lockedWay 15 0) ∷ flag (lockedWay 15 1) ∷ flag (lockedWay 15 2) ∷ flag (lockedWay 15 3) ∷ flag (lockedWay 7 3) ∷ [];
+      printed = 0 ∷ 0 ∷ 0 ∷ 1 ∷ 0 ∷ [];
     }
     -- "Lines have 64 bytes"
     ∷ record { given = flag (sameLine 64 127) ∷ flag (sameLine 64 128) ∷ flag (sameLine 128 64) ∷ []; printed = 1 ∷ 0 ∷ 0 ∷ [] }
@@ -398,21 +416,21 @@ abbrev toldLine : List ℕ → List ℕ
 toldLine answer = Listing.line (Listing.told answer)
 
 abbrev lentTables : Tables
-lentTables = tablesOf (5 ∷ 6 ∷ 7 ∷ []) (5 ∷ 6 ∷ []) (5 ∷ 6 ∷ []) (5 ∷ 6 ∷ [])
+lentTables = tablesOf (5 ∷ 6 ∷ 7 ∷ []) (5 ∷ 11 ∷ []) (5 ∷ 12 ∷ []) (5 ∷ 13 ∷ [])
 
 abbrev listings : List Case
 listings =
     -- the lines at the front of the output, and the tables at the front of the lent ones; what lies behind stays
-    record { given = listed (listOf (file 1) (replicate 54 9) lentTables); printed = 53 ∷ (text 1 ++ (9 ∷ 0 ∷ 1 ∷ 7 ∷ 2 ∷ 6 ∷ 2 ∷ 6 ∷ 1 ∷ 6 ∷ [])) }
+    record { given = listed (listOf (file 1) (replicate 54 9) lentTables); printed = 53 ∷ (text 1 ++ (9 ∷ 0 ∷ 1 ∷ 7 ∷ 2 ∷ 11 ∷ 2 ∷ 12 ∷ 1 ∷ 13 ∷ [])) }
     -- "the one line `refused` and the number": refused 10; the tables stay
     ∷ record {
       given = listed (listOf [] (replicate 12 9) lentTables);
-      printed = 11 ∷ 114 ∷ 101 ∷ 102 ∷ 117 ∷ 115 ∷ 101 ∷ 100 ∷ 32 ∷ 49 ∷ 48 ∷ 10 ∷ 9 ∷ 5 ∷ 6 ∷ 7 ∷ 5 ∷ 6 ∷ 5 ∷ 6 ∷ 5 ∷ 6 ∷ [];
+      printed = 11 ∷ 114 ∷ 101 ∷ 102 ∷ 117 ∷ 115 ∷ 101 ∷ 100 ∷ 32 ∷ 49 ∷ 48 ∷ 10 ∷ 9 ∷ 5 ∷ 6 ∷ 7 ∷ 5 ∷ 11 ∷ 5 ∷ 12 ∷ 5 ∷ 13 ∷ [];
     }
     -- also where the file names a geometry: under 8 bytes
     ∷ record {
       given = listed (listOf (1 ∷ 0 ∷ 2 ∷ 1 ∷ []) [] lentTables);
-      printed = 11 ∷ 114 ∷ 101 ∷ 102 ∷ 117 ∷ 115 ∷ 101 ∷ 100 ∷ 32 ∷ 49 ∷ 48 ∷ 10 ∷ 5 ∷ 6 ∷ 7 ∷ 5 ∷ 6 ∷ 5 ∷ 6 ∷ 5 ∷ 6 ∷ [];
+      printed = 11 ∷ 114 ∷ 101 ∷ 102 ∷ 117 ∷ 115 ∷ 101 ∷ 100 ∷ 32 ∷ 49 ∷ 48 ∷ 10 ∷ 5 ∷ 6 ∷ 7 ∷ 5 ∷ 11 ∷ 5 ∷ 12 ∷ 5 ∷ 13 ∷ [];
     }
     -- the words: hit 1; fill 1; evict 1 2 0; pass; flush 1 0; absent; policy 1 0; refused 1; select 1 2 3
     ∷ record { given = toldLine (Case.hit 1) ++ toldLine (Case.fill 1); printed = 104 ∷ 105 ∷ 116 ∷ 32 ∷ 49 ∷ 10 ∷ 102 ∷ 105 ∷ 108 ∷ 108 ∷ 32 ∷ 49 ∷ 10 ∷ [] }

@@ -217,6 +217,7 @@ changes =
     -- nodes 0 and 2; ways 1 and 3; ways 3 and 1 to the old end; nothing where the fill map stays
     record { given = told (changeOf 4 0 3 15) ++ told (changeOf 4 1 6 12); printed = 0 ∷ 5 ∷ 1 ∷ 10 ∷ [] }
     ∷ record { given = told (changeOf 4 2 6 12) ++ told (changeOf 4 2 6 6); printed = 2 ∷ 4 ∷ 10 ∷ 0x13 ∷ 3 ∷ [] }
+    ∷ record { given = told (changeOf 4 2 12 6) ++ told (changeOf 4 2 0 6); printed = 2 ∷ 4 ∷ 10 ∷ 0x13 ∷ 2 ∷ 4 ∷ 6 ∷ 0x12 ∷ [] }
     -- outside the limits words stay
     ∷ record {
       given = told (changeOf 4 3 6 12) ++ (told (changeOf 3 1 6 4) ++ (told (changeOf 4 1 0x16 12) ++ told (changeOf 4 1 6 0x1c)));

@@ -122,6 +122,8 @@ sweeps =
     }
     -- "invalid, not dirty", and the change of the word
     ∷ record { given = lineNumbers (sweptLines 5 (Raise 4) (lines 7 6 1)); printed = 2 ∷ 2 ∷ 5 ∷ [] }
+    -- a map has sixteen bits
+    ∷ record { given = lineNumbers (sweptLines 1 Stay (lines 0x18001 0x18000 1)); printed = 0x8000 ∷ 0x8000 ∷ 1 ∷ [] }
     -- "tag zero"; ways that the set does not have are left out
     ∷ record {
       given = effect (sweepBy (record { gone = 0x15; change = Raise 4 }) (row (5 ∷ 6 ∷ 7 ∷ 8 ∷ []) 0x1f 0x14 1));
@@ -227,6 +229,13 @@ verdicts =
       given = number (plru 1 4) 7 1 0xa000a ∷ number (nru 1 4) 7 1 0xa000a ∷ number (plru 1 3) 7 1 0x20002 ∷ [];
       printed = 9 ∷ 0 ∷ 1 ∷ [];
     }
+    -- "or a high bit set": bit 32, and bit 63; "a fill map that is not part of the hit map"
+    ∷ record {
+      given = number (plru 1 4) 7 1 0x100080008 ∷ number (plru 1 4) 7 1 0x8000000000080008 ∷ number (plru 1 4) 7 1 0x20008 ∷ [];
+      printed = 5 ∷ 5 ∷ 5 ∷ [];
+    }
+    -- 8 goes by hit maps: way 2 in the hit map alone
+    ∷ record { given = number (plru 1 4) 7 1 4 ∷ number (plru 1 4) 7 1 0xc ∷ number (plru 1 4) 7 1 8 ∷ []; printed = 8 ∷ 8 ∷ 0 ∷ [] }
     -- 9 goes by fill maps: domain 1 has ways 0 and 2 in its hit map and way 0 alone in its fill map, and no node is free for that
     ∷ record {
       given = policyRefusalOf (plru 1 4) (record { maps = maps 0 0 ∷ maps 5 1 ∷ replicate 14 (maps 0 0) }) (counts 7) 1 0 0xa000a ∷ [];
