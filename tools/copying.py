@@ -112,15 +112,15 @@ def with_lists_open(text: str) -> str:
 def case_theorems(worked: str, module: str, text: str) -> dict[str, str]:
     """For each list of a file of cases the theorem over it, made of the one theorem in `worked`, by its module."""
     uses = re.findall(r"^use .*(?:\n  .*|\n\})*", worked, re.M)
-    lists = [u for u in uses if ".specs.Cases" in u and not u.endswith(".{Case}")]
+    lists = [u for u in uses if ".specs.Cases" in u and ".CasesCase." not in u]
     head = "\n".join(u for u in uses if u not in lists)
     names = {n for u in lists for n in re.findall(r"\w+", u.partition("{")[2])}
     opened = re.search(r"^unfolding (.*(?:\n    .*)*)", worked, re.M)[1].split()
     opened = "unfolding " + " ".join(n for n in opened if n not in names)
     found = {}
     for kind, name, number in LIST.findall(text):
-        body = re.search(rf"^{name}(?: u)? =((?:\n? .*|\n)*)", text, re.M)[1]
-        if JOINED.fullmatch(body):
+        body = re.search(rf"^{name}(?: u)? =((?:\n? .*|\n)*)", text, re.M)
+        if not body or JOINED.fullmatch(body[1]):
             continue
         named = f"use Rattle.{CRATE}.specs.{module}.{{{name}}}\n"
         given = f"({name} u)" if number else name
