@@ -16,6 +16,7 @@ use Rattle.policy.specs.Policy.{asRead}
 use Rattle.policy.specs.declared.Maps.{Maps}
 use Rattle.row.specs.Row.{Row, Effect}
 use Rattle.row.specs.Calls.{rowOf, told, result, accessOf, flushOf, useOf}
+use Rattle.row.specs.Statements.{came, went}
 use Rattle.row.specs.declared.Lines.{Lines}
 use Rattle.sweep.specs.Clean.{clean}
 use Rattle.sweep.specs.Sweep.{sweepOf, drops, sweptLines, sweepBy}
@@ -294,5 +295,18 @@ places =
     }
     ∷ []
 
+-- Lines that come and go with an answer, in the order of document 01's words: "fills equal evicted plus flushed plus dropped plus the lines now valid".
+abbrev moves : List Case
+moves =
+    record {
+      given = came (Hit 1) ∷ came (Fill 1) ∷ came (Evict 1 2 true) ∷ came Pass ∷ came (Flush 1 true) ∷ came Absent ∷ came (Policy 2 1) ∷ came (Refused 6) ∷ [];
+      printed = 0 ∷ 1 ∷ 1 ∷ 0 ∷ 0 ∷ 0 ∷ 0 ∷ 0 ∷ [];
+    }
+    ∷ record {
+      given = went (Hit 1) ∷ went (Fill 1) ∷ went (Evict 1 2 true) ∷ went Pass ∷ went (Flush 1 true) ∷ went Absent ∷ went (Policy 2 1) ∷ went (Refused 6) ∷ [];
+      printed = 0 ∷ 0 ∷ 1 ∷ 0 ∷ 1 ∷ 0 ∷ 0 ∷ 0 ∷ [];
+    }
+    ∷ []
+
 unfoldable pub setCalls : List Case
-setCalls = rows ++ (sweeps ++ (records ++ (verdicts ++ places)))
+setCalls = rows ++ (sweeps ++ (records ++ (verdicts ++ (places ++ moves))))
