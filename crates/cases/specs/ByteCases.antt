@@ -1,13 +1,14 @@
 -- Numbers in bytes, trace files and the block of the C calls: what the definitions give, and what was worked out by hand from document 01, "Trace file and
 -- listing", and from document 02's jobs 3 and 7.
-use mathlib.Core.List.{List, [], _∷_, _++_}
+use mathlib.Core.List.{List, [], _∷_, _++_, map}
 use Prim.Native.Nat.{ℕ, _*_}
 use lib.ListN.{length, replicate}
 use Rattle.endian.specs.Bytes.{value, digits, field, putField, cut, sum, joined}
 use Rattle.runs.specs.Runs.{numbers, bytesOf, readRun, putRun}
 use Rattle.geometry.specs.Named.{geometryOf}
 use Rattle.geometry.specs.declared.Geometry.{Geometry}
-use Rattle.tracefile.specs.File.{fileRefusal}
+use Rattle.command.specs.Command.{Command}
+use Rattle.tracefile.specs.File.{stepsOf, fileRefusal}
 use Rattle.domains.specs.Domains.{noDomain}
 use Rattle.domains.specs.declared.Domain.{Domain}
 use Rattle.steps.specs.Step.{State}
@@ -74,6 +75,13 @@ files =
     }
     -- job 3: "10 also covers a file naming more than 256 sets"; three sets are 1
     ∷ record { given = fileRefusal (head 0 1 0 0) ∷ fileRefusal (head 1 1 0 0) ∷ fileRefusal (head 3 0 0 0) ∷ []; printed = 0 ∷ 10 ∷ 1 ∷ [] }
+    -- case L: "4,096 steps stand, 4,097 are refused 10"
+    ∷ record { given = fileRefusal (head 1 0 0 16 ++ replicate 40960 0) ∷ fileRefusal (head 1 0 1 16 ++ replicate 40970 0) ∷ []; printed = 0 ∷ 10 ∷ [] }
+    -- "n arguments of 8 bytes": the lowest byte and the highest
+    ∷ record {
+      given = map (λ (c : Command). c .argument) (stepsOf (head 1 0 1 0 ++ (0 ∷ 1 ∷ 5 ∷ 0 ∷ 0 ∷ 0 ∷ 0 ∷ 0 ∷ 0 ∷ 128 ∷ [])));
+      printed = 0x8000000000000005 ∷ [];
+    }
     ∷ []
 
 -- ---- The block: one set of two ways under NRU

@@ -286,7 +286,8 @@ seen =
     ∷ record {
       given =
           StruckOut.verdicts (nru 1 2) 0 (loads 1 (line 6) ∷ takes 1 3 3 ∷ takes 0 3 3 ∷ does 1 17 0 ∷ takes 1 2 2 ∷ []) cache
-          ++ Switching.coreVerdicts (nru 1 2) 0 (loads 1 (line 6) ∷ takes 1 3 3 ∷ takes 0 3 3 ∷ does 1 17 0 ∷ takes 1 2 2 ∷ []) (record { cache = cache; cores = [] });
+          ++ Switching.coreVerdicts (nru 1 2) 0 (loads 1 (line 6) ∷ takes 1 3 3 ∷ takes 0 3 3 ∷ does 1 17 0 ∷ takes 1 2 2 ∷ [])
+          (record { cache = cache; cores = [] });
       printed = 8 ∷ 0 ∷ 8 ∷ 0 ∷ [];
     }
     -- an answer's number, if it is a refusal
