@@ -15,7 +15,7 @@ pub const COUNTS: usize = 72;
 pub const TABLES: usize = 520;
 
 // Where a set lies: the places of its valid map, its dirty map, its replacement word and its tags.
-#[derive(Drop)]
+#[derive(Clone, Copy)]
 pub struct Places {
     pub valid: usize,
     pub dirty: usize,

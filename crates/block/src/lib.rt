@@ -1,4 +1,6 @@
 // A cache in one lent block of bytes, for testbenches in C.
+#![tactic(auto)]
+
 mod head;
 mod layout;
 mod make;

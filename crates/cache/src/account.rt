@@ -9,7 +9,7 @@ use domains::{Domain, Domains};
 use sweep::Drops;
 
 // What a step answers, and the record of the domain after it.
-#[derive(Drop)]
+#[derive(Clone, Copy)]
 pub struct Used {
     pub answer: Answer,
     pub own: Domain,

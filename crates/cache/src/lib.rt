@@ -1,4 +1,6 @@
 // A set-associative cache whose domains each hold their own ways.
+#![tactic(auto)]
+
 mod account;
 mod judge;
 mod place;
@@ -14,7 +16,7 @@ use domains::Domains;
 use geometry::Geometry;
 
 // A step's answer, and the domains after it.
-#[derive(Drop)]
+#[derive(Clone, Copy)]
 pub struct Stepped {
     pub answer: Answer,
     pub domains: Domains,

@@ -6,7 +6,7 @@ ghost use Rattle.cache.specs.Inside.{PlaceOf, RowOf};
 use geometry::{Geometry, Place};
 
 // A set's part of the tags.
-#[derive(Drop)]
+#[derive(Clone, Copy)]
 pub struct Span {
     pub start: usize,
     pub stop: usize,

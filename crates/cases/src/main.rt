@@ -1,6 +1,8 @@
 // Cases A, J, K and L of document 01, case J as document 02's job 3 has it; runs under true LRU, which its job 1 makes rule 2; a cache of the most
 // lines that there may be, all of them dropped at once; files of ours; and the file on standard input, which is one byte longer than the longest,
 // listed by the public call. Cases B to I and those of job 1 are shown of the rules themselves, in proofs/Worked.antt.
+#![tactic(auto)]
+
 ghost use Rattle.std.specs.Prelude.{◌≤◌};
 ghost use Rattle.io.specs.Counts.{IsPrefixLen};
 ghost use Rattle.geometry.specs.Geometry.{max_sets};

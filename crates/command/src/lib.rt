@@ -1,10 +1,12 @@
 // A step to take, its code, what its kind asks for, and what it answers.
+#![tactic(auto)]
+
 ghost use Rattle.std.specs.Prelude.{◌≡◌};
 ghost use Rattle.command.specs.Command.{command_of, code_of, command_is};
 ghost use Rattle.command.specs.Kind.{kind_of, kind_is};
 
 // The domain that a step names, its kind and its argument.
-#[derive(Drop)]
+#[derive(Clone, Copy)]
 pub struct Command {
     pub domain: u8,
     pub kind: u8,
@@ -30,7 +32,7 @@ pub fn command_of(code: u16, argument: u64) -> Command
 }
 
 // What a step does with the line of its address. A fetch is a load.
-#[derive(Drop)]
+#[derive(Clone, Copy)]
 pub enum LineUse {
     Load,
     Store,
@@ -38,7 +40,7 @@ pub enum LineUse {
 }
 
 // What a kind number asks for.
-#[derive(Drop)]
+#[derive(Clone, Copy)]
 pub enum Asked {
     Line(LineUse),
     Policy,
@@ -58,7 +60,7 @@ pub fn kind_of(kind: u8) -> Asked
 }
 
 // What a step answers.
-#[derive(Drop)]
+#[derive(Clone, Copy)]
 pub enum Answer {
     Hit(usize),
     Fill(usize),

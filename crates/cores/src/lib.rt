@@ -1,4 +1,6 @@
 // Steps where core records are lent beside the tables.
+#![tactic(auto)]
+
 ghost use Rattle.std.specs.Prelude.{◌≡◌, cond, eqb, ltb};
 ghost use Rattle.selectors.specs.Selectors.{max_cores, refused as refused_by, meant_by};
 ghost use Rattle.selectors.specs.Calls.{meaning_is};
@@ -14,21 +16,21 @@ use geometry::Geometry;
 use selectors::{Core, MAX_CORES, Meaning};
 
 // What a step answers: what the cache does, or the selectors that were written.
-#[derive(Drop)]
+#[derive(Clone, Copy)]
 pub enum Reply {
     Cache(Answer),
     Select(Core),
 }
 
 // A step's answer, and the domains after it.
-#[derive(Drop)]
+#[derive(Clone, Copy)]
 pub struct Stepped {
     pub reply: Reply,
     pub domains: Domains,
 }
 
 // The same, and the record of the core that the step names.
-#[derive(Drop)]
+#[derive(Clone, Copy)]
 pub struct Turned {
     pub stepped: Stepped,
     pub core: Core,

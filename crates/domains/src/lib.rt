@@ -1,4 +1,6 @@
 // The sixteen domains: their policies and counts, and what a step leaves of them.
+#![tactic(auto)]
+
 ghost use Rattle.std.specs.Prelude.{◌≡◌, false, cond, ◌+◌, ◌<◌, eqb};
 ghost use Rattle.waymap.specs.Bits.{digit};
 ghost use Rattle.domains.specs.Domains.{
@@ -16,7 +18,7 @@ use policy::Maps;
 const LARGEST: u32 = 4_294_967_295;
 
 // A domain's counts.
-#[derive(Drop)]
+#[derive(Clone, Copy)]
 pub struct Counts {
     pub hits: u32,
     pub misses: u32,
@@ -31,7 +33,7 @@ pub struct Counts {
 }
 
 // A domain's hit map, fill map and counts.
-#[derive(Drop)]
+#[derive(Clone, Copy)]
 pub struct Domain {
     pub hit: u16,
     pub fill: u16,
@@ -39,13 +41,13 @@ pub struct Domain {
 }
 
 // The sixteen domains.
-#[derive(Drop)]
+#[derive(Clone, Copy)]
 pub struct Domains {
     pub records: [Domain; 16],
 }
 
 // The maps of all domains, as stored.
-#[derive(Drop)]
+#[derive(Clone, Copy)]
 pub struct Policies {
     pub maps: [Maps; 16],
 }

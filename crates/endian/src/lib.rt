@@ -1,4 +1,6 @@
 // Little-endian numbers in lent bytes of any number and content.
+#![tactic(auto)]
+
 mod rest;
 mod whole;
 

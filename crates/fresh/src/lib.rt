@@ -1,4 +1,6 @@
 // A fresh cache.
+#![tactic(auto)]
+
 mod fill;
 
 ghost use Rattle.std.specs.Prelude.{◌≡◌};

@@ -1,4 +1,6 @@
 // The geometry of a cache: how bytes name it, its limits, how long the tables are, and where an address's line can be.
+#![tactic(auto)]
+
 ghost use Rattle.std.specs.Prelude.{◌≡◌};
 ghost use Rattle.geometry.specs.Geometry.{within as within_limits, sized as sized_as, sizes_of};
 ghost use Rattle.geometry.specs.Address.{place_of};
@@ -9,7 +11,7 @@ ghost use Rattle.geometry.specs.Named.{geometry_of};
 pub const MAX_SETS: usize = 4096;
 
 // The numbers of sets and ways, and the replacement rule.
-#[derive(Drop)]
+#[derive(Clone, Copy)]
 pub struct Geometry {
     pub sets: usize,
     pub ways: usize,
@@ -75,7 +77,7 @@ pub fn sizes(g: Geometry, tags: usize, valid: usize, dirty: usize, words: usize)
 }
 
 // An address's set, and its tag there.
-#[derive(Drop)]
+#[derive(Clone, Copy)]
 pub struct Place {
     pub set: usize,
     pub tag: u64,

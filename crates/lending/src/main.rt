@@ -6,6 +6,8 @@
 //   `step` n, kind, argument: one step by domain or core n.
 // Other lines are remarks. Each line is written out again. Behind that of a step come its answer, a word's number and three fields, and each record that it
 // changed, with its place. Words are numbered as document 01 lists them, from 0, and `select` is 8.
+#![tactic(auto)]
+
 ghost use Rattle.std.specs.Prelude.{◌≡◌, ◌≤◌, ◌<◌, length, take, drop};
 ghost use Rattle.steps.specs.Step.{tables_of};
 ghost use Rattle.cores.specs.Step.{core_step};
@@ -19,7 +21,7 @@ use libc::STDOUT_FILENO;
 use selectors::Core;
 
 // What a step gives, and the records after it.
-#[derive(Drop)]
+#[derive(Clone, Copy)]
 struct Lent {
     stepped: Stepped,
     list: [Core; 33],
@@ -125,7 +127,7 @@ fn show_cores(old: [Core; 33], list: [Core; 33]) {
 // ---- Calling
 
 // What is lent, but for the tables: how many sets the steps are told of, the domains, the records, and how many of them.
-#[derive(Drop)]
+#[derive(Clone, Copy)]
 struct Bench {
     sets: usize,
     domains: Domains,

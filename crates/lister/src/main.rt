@@ -1,5 +1,7 @@
 // Writes the listing of the trace file on standard input to standard output. A failed read or write is told on standard error, and a file
 // that was not read to its end is not listed.
+#![tactic(auto)]
+
 use libc::{STDERR_FILENO, STDOUT_FILENO};
 use trace::TAGS;
 use tracefile::MAX_SETS;

@@ -1,4 +1,6 @@
 // The hit lookup among the tags of a set.
+#![tactic(auto)]
+
 ghost use Rattle.std.specs.Prelude.{◌≡◌, ◌&&◌, ◌<◌, eqb, length, get_or};
 ghost use Rattle.waymap.specs.Bits.{bit};
 ghost use Rattle.lookup.specs.Lookup.{hit_way, visited as visited_of};
@@ -15,7 +17,7 @@ fn is_at(tags: &[u64], map: u16, tag: u64, way: usize) -> bool
 }
 
 // The way that is hit, the number of ways where there is none, and how many ways were visited.
-#[derive(Drop)]
+#[derive(Clone, Copy)]
 pub struct Found {
     pub way: usize,
     pub visited: usize,

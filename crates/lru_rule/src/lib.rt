@@ -1,4 +1,6 @@
 // True LRU, without any cache above it. A word holds the ways in places of four bits, place 0 the most recent.
+#![tactic(auto)]
+
 mod orders;
 
 ghost use Rattle.std.specs.Prelude.{◌≡◌};
@@ -29,7 +31,7 @@ pub fn touch(ways: usize, word: u64, map: u16, way: usize) -> u64
 }
 
 // What a change of fill map does to every order: the ways that it moves to the old end, and the word that holds them as they then stand there.
-#[derive(Drop)]
+#[derive(Clone, Copy)]
 pub struct Moves {
     pub ways: u16,
     pub tail: u64,

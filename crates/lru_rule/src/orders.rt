@@ -70,7 +70,7 @@ pub fn oldest(ways: usize, order: u64, map: u16) -> usize
 
 // What one pass over the places of a word finds: whether it holds each way exactly once and nothing above, as `holds_each` tells, and its ways
 // of a map, put before the places of another word.
-#[derive(Drop)]
+#[derive(Clone, Copy)]
 pub struct Found {
     pub formed: bool,
     pub out: u64,

@@ -1,9 +1,11 @@
 // NRU, without any cache above it. Bit w of a word belongs to way w.
+#![tactic(auto)]
+
 ghost use Rattle.std.specs.Prelude.{◌≡◌};
 ghost use Rattle.nru.specs.Calls.{victim_of, touch_of, change_of, reset_of, own_of, fresh_of};
 
 // A victim, and the word before its touch.
-#[derive(Drop)]
+#[derive(Clone, Copy)]
 pub struct Choice {
     pub way: usize,
     pub word: u64,

@@ -1,6 +1,8 @@
 // Writes the own part of replacement words, a line for each. Standard input has the form of a trace file: its ways and rule are those of the
 // words, the code of entry i is a fill map, and its argument a word. An entry whose map reaches the number of ways gives `refused 5`, and a
 // file that is refused gives the one line `refused` and its number. A failed read or write is told on standard error.
+#![tactic(auto)]
+
 use libc::{STDERR_FILENO, STDOUT_FILENO};
 use replacement::Reply;
 

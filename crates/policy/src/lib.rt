@@ -1,9 +1,11 @@
 // A domain's policy: how it is read, and what a policy argument says.
+#![tactic(auto)]
+
 ghost use Rattle.std.specs.Prelude.{◌≡◌};
 ghost use Rattle.policy.specs.Policy.{as_read, new_maps, bad_argument};
 
 // A domain's hit map and fill map.
-#[derive(Drop)]
+#[derive(Clone, Copy)]
 pub struct Maps {
     pub hit: u16,
     pub fill: u16,

@@ -1,4 +1,6 @@
 // The struck-out list of a trace. A step is a code, its domain or core plus 256 times its kind, and an argument.
+#![tactic(auto)]
+
 ghost use Rattle.std.specs.Prelude.{◌≡◌, ◌%◌, ◌<◌, ltb, length};
 ghost use Rattle.command.specs.Command.{command_of};
 ghost use Rattle.selectors.specs.Selectors.{max_cores, meant_by};
@@ -10,7 +12,7 @@ ghost use Rattle.purge.specs.Inside.{take_one};
 use selectors::{Core, MAX_CORES, Meaning};
 
 // The refusal's number or 0, and how many steps are kept.
-#[derive(Drop)]
+#[derive(Clone, Copy)]
 pub struct Purged {
     pub number: usize,
     pub count: usize,

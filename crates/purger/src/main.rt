@@ -1,6 +1,8 @@
 // Writes the steps that are left of the trace file on standard input when the purge of a domain strikes out the others' accesses and
 // flushes: a line for each step, with its domain, kind and argument. The domain is the first argument. A file that is refused by 10 gives
 // nothing. An argument that is no number below 16, and a failed read or write, are told on standard error.
+#![tactic(auto)]
+
 ghost use Rattle.std.specs.Prelude.{◌≤◌, length};
 
 use libc::{STDERR_FILENO, STDOUT_FILENO};

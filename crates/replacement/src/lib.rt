@@ -1,5 +1,7 @@
 // The replacement rules, Tree-PLRU, NRU and true LRU, without any cache above them: a word and a map give a victim and the word before its touch;
 // a word, a map and a touched way give a new word.
+#![tactic(auto)]
+
 ghost use Rattle.std.specs.Prelude.{◌≡◌};
 ghost use Rattle.replacement.specs.Calls.{answer_of, outcome_of, in_limits, victim_of, touch_of, fresh_of, own_of, shares_of};
 ghost use Rattle.replacement.specs.Change.{change_of, change_by};
@@ -7,7 +9,7 @@ ghost use Rattle.replacement.specs.Change.{change_of, change_by};
 use lru_rule::Moves;
 
 // The answer of a call: a way, or that the call is done, or why it is refused.
-#[derive(Drop)]
+#[derive(Clone, Copy)]
 pub enum Reply {
     Way(usize),
     Done,
@@ -20,14 +22,14 @@ pub enum Reply {
 }
 
 // The answer, and the word that the call leaves: the given one where it is refused.
-#[derive(Drop)]
+#[derive(Clone, Copy)]
 pub struct Outcome {
     pub reply: Reply,
     pub word: u64,
 }
 
 // What a change of fill map does to a word.
-#[derive(Drop)]
+#[derive(Clone, Copy)]
 pub enum Change {
     // These nodes become zero.
     Clear(u64),

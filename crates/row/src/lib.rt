@@ -1,4 +1,6 @@
 // The work on one set: its tags as a lent slice, whose length is the number of ways, and its maps and replacement word by value.
+#![tactic(auto)]
+
 mod rules;
 mod update;
 mod uses;
@@ -12,7 +14,7 @@ use command::{Answer, LineUse};
 use policy::Maps;
 
 // A set's valid map, dirty map and replacement word.
-#[derive(Drop)]
+#[derive(Clone, Copy)]
 pub struct Lines {
     pub valid: u16,
     pub dirty: u16,
@@ -20,14 +22,14 @@ pub struct Lines {
 }
 
 // The answer, and what the set has beside its tags.
-#[derive(Drop)]
+#[derive(Clone, Copy)]
 pub struct Done {
     pub answer: Answer,
     pub lines: Lines,
 }
 
 // What a lookup answers, and how many ways it visited.
-#[derive(Drop)]
+#[derive(Clone, Copy)]
 pub struct Looked {
     pub answer: Answer,
     pub visited: usize,

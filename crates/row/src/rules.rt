@@ -7,7 +7,7 @@ ghost use Rattle.row.specs.Inside.{Usable, ChoiceOf};
 use replacement::Reply;
 
 // A victim, and the word before its touch.
-#[derive(Drop)]
+#[derive(Clone, Copy)]
 pub struct Choice {
     pub way: usize,
     pub word: u64,

@@ -8,6 +8,8 @@
 //   `conflict` and 0, 5 or 9: whether two domains may have these two maps.
 // A call that is refused gives `refused` and its number in place of its values, except that `touch` still names the way. A file that is refused
 // gives the one line `refused` and its number. A failed read or write is told on standard error.
+#![tactic(auto)]
+
 use libc::{STDERR_FILENO, STDOUT_FILENO};
 use replacement::{Outcome, Reply};
 

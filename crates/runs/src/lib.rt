@@ -1,4 +1,6 @@
 // Runs of little-endian numbers in lent bytes of any number and content.
+#![tactic(auto)]
+
 mod whole;
 
 ghost use Rattle.std.specs.Prelude.{◌≡◌, ◌-◌, length};

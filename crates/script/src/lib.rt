@@ -1,4 +1,6 @@
 // Scripts: lines of a word and up to four numbers, for bytes of any content and number.
+#![tactic(auto)]
+
 ghost use Rattle.std.specs.Prelude.{◌≡◌, ◌≤◌, length};
 ghost use Rattle.script.specs.Script.{behind_first, line_after, with_byte, number_at, numbers_of};
 

@@ -1,4 +1,6 @@
 // Core records, and what a step means where they are lent: a step of the cache by a domain, a write of a core's selectors, or a refusal.
+#![tactic(auto)]
+
 ghost use Rattle.std.specs.Prelude.{◌≡◌, cond};
 ghost use Rattle.selectors.specs.Selectors.{written, refused, plain, meant_by, record_by};
 ghost use Rattle.selectors.specs.Calls.{meaning_is};
@@ -7,7 +9,7 @@ ghost use Rattle.selectors.specs.Calls.{meaning_is};
 pub const MAX_CORES: usize = 32;
 
 // A core's selectors: the domains of its fetches, of its loads and flushes, and of its stores.
-#[derive(Drop)]
+#[derive(Clone, Copy)]
 pub struct Core {
     pub cs: u8,
     pub ds: u8,
@@ -15,7 +17,7 @@ pub struct Core {
 }
 
 // What a step means.
-#[derive(Drop)]
+#[derive(Clone, Copy)]
 pub enum Meaning {
     // A step of the cache by a domain.
     Plain {

@@ -2,6 +2,8 @@
 // number of two bytes, and the cache is fresh; or it has records and maps that are lent, as lent.rt says, and then a trace file. What is written has the
 // form of a listing. A file of neither form, or of more than 40,968 bytes, gives the one line `refused 10`. Under a geometry outside the limits each step
 // on a fresh cache is a call that is refused by 1. A failed read or write is told on standard error.
+#![tactic(auto)]
+
 mod lent;
 
 ghost use Rattle.std.specs.Prelude.{◌*◌, ◌≤◌};
@@ -108,7 +110,7 @@ fn show_domains(ways: usize, domains: Domains) -> bool {
 }
 
 // The domains after a step, and whether all lines so far were written.
-#[derive(Drop)]
+#[derive(Clone, Copy)]
 pub struct Shown {
     pub domains: Domains,
     pub written: bool,

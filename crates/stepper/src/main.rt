@@ -7,6 +7,8 @@
 // tags (8 each). An access or a flush, by a domain or a core, has the row of its set, a policy change has all rows, and so has the block before
 // the first step; other steps have none. After the last block come, for each of the sixteen domains, the valid lines in its hit map over all
 // sets (4). A refused file gives nothing. A failed read or write is told on standard error.
+#![tactic(auto)]
+
 ghost use Rattle.std.specs.Prelude.{◌≡◌, ◌+◌, ◌*◌, ◌≤◌, ◌<◌, length};
 ghost use Rattle.io.specs.Counts.{IsPrefixLen as CountsBytes};
 ghost use Rattle.tracefile.specs.File.{max_file_sets};
@@ -89,7 +91,7 @@ fn put_domains(domains: Domains, out: &mut [u8])
 }
 
 // The records of the cores.
-#[derive(Drop)]
+#[derive(Clone, Copy)]
 pub struct Records {
     pub list: [Core; MAX_CORES],
 }
@@ -202,7 +204,7 @@ fn uses_line(kind: u8) -> bool {
 }
 
 // What a block shows of the tables: the set of its step's argument, and from which set up to which it has rows.
-#[derive(Drop)]
+#[derive(Clone, Copy)]
 pub struct Span {
     pub set: usize,
     pub from: usize,
@@ -250,7 +252,7 @@ fn span_of(file: &[u8], n: u32, i: u32, g: Geometry) -> Span
 
 // What stands after a step: the domains and the records, the domain by which the cache took the step, how many ways its lookup visited, and whether
 // all blocks before it were written.
-#[derive(Drop)]
+#[derive(Clone, Copy)]
 pub struct Shown {
     pub domains: Domains,
     pub records: Records,

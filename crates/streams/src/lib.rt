@@ -1,10 +1,12 @@
 // Standard input, read to its end.
+#![tactic(auto)]
+
 ghost use Rattle.io.specs.Counts.{IsPrefixLen};
 
 use libc::STDIN_FILENO;
 
 // How many bytes of the input were kept, and whether it was read to its end without a failed read.
-#[derive(Drop)]
+#[derive(Clone, Copy)]
 pub struct Got {
     pub count: usize,
     pub whole: bool,

@@ -1,4 +1,6 @@
 // A change of policy: worked out from the maps once, and then done to one set after another.
+#![tactic(auto)]
+
 mod lines;
 mod number;
 mod tags;
@@ -18,7 +20,7 @@ use replacement::Change;
 use row::{Done, Lines};
 
 // What a change of policy does to every set alike: the ways that are cleaned, and what becomes of the replacement word.
-#[derive(Drop)]
+#[derive(Clone, Copy)]
 pub struct Sweep {
     pub gone: u16,
     pub change: Change,
@@ -69,7 +71,7 @@ pub fn swept(tags: &mut [u64], lines: Lines, sweep: Sweep) -> Done
 }
 
 // The valid lines that a change of policy dropped, and how many of them were dirty.
-#[derive(Drop)]
+#[derive(Clone, Copy)]
 pub struct Drops {
     pub dropped: usize,
     pub dirty: usize,

@@ -6,6 +6,8 @@
 //   `all`: nothing is called, and all bytes of the block are written out.
 // Other lines are remarks. Each line is written out again. Behind that of a call come its result, the bytes of the answer after it, and the bytes of the
 // block that it changed, each row with the place of its first byte.
+#![tactic(auto)]
+
 ghost use Rattle.std.specs.Prelude.{◌≤◌, ◌<◌, length};
 
 use libc::STDOUT_FILENO;

@@ -1,4 +1,6 @@
 // A trace file and its listing.
+#![tactic(auto)]
+
 mod lines;
 mod text;
 

@@ -45,7 +45,7 @@ fn step(place: u32, word: &[u8], values: &[u64], out: &mut [u8], at: usize) -> u
 }
 
 // What a line says: a word of at most seven bytes with its length, and at most three fields with their number.
-#[derive(Drop)]
+#[derive(Clone, Copy)]
 pub struct Phrase(pub [u8; 7], pub usize, pub u64, pub u64, pub u64, pub usize);
 
 // The words of answers, each in seven bytes.

@@ -1,4 +1,6 @@
 // What a trace file says, for bytes of any content and number.
+#![tactic(auto)]
+
 ghost use Rattle.std.specs.Prelude.{◌≡◌};
 ghost use Rattle.command.specs.Command.{command_is};
 ghost use Rattle.tracefile.specs.File.{step_count, command_at, file_refusal};

@@ -1,5 +1,7 @@
 // Tree-PLRU, without any cache above it. Node i is bit i of a word, and its children are 2i + 1 and 2i + 2; way w stands at place
 // ways - 1 + w.
+#![tactic(auto)]
+
 mod nodes;
 mod path;
 mod walk;

@@ -1,4 +1,6 @@
 // Why a step is turned down.
+#![tactic(auto)]
+
 mod reasons;
 
 ghost use Rattle.std.specs.Prelude.{◌≡◌};

@@ -1,5 +1,7 @@
 // Maps of ways: 16-bit words whose bit w stands for way w. Two maps are joined and masked by `|`, `&`, `^` and `!`, whose bits
 // proofs/BitLaws.antt gives; here is what takes a way, a number of ways, or a shift.
+#![tactic(auto)]
+
 ghost use Rattle.std.specs.Prelude.{◌≡◌, not, ℕ, ltb, eqb};
 ghost use Rattle.waymap.specs.Bits.{bit, word, lowest, count, put, reaches};
 ghost use Rattle.waymap.specs.Encoder.{encode as encode_map};
