@@ -1,0 +1,10 @@
+-- `block::sets::put_lines` meets its contract.
+use Rattle.std.proofs.Common.{◌∙◌}
+use Rattle.block.proofs.sets.put_lines.Goals as goal
+
+pub returns : goal.returns
+returns c =
+    let third = c.put_u64 in
+    let second = c.put_u16-2 in
+    let first = c.put_u16 in
+    third.ensures ∙ rw (second.ensures, first.ensures)

@@ -1,0 +1,51 @@
+-- `cache::sets::sweep_sets` meets its contract. The invariant: the sets before are swept, and the sums are theirs.
+use mathlib.Core.Path.{sym, ◌∙◌}
+use Prim.Native.Nat.{◌-◌}
+use native.Mathlib.Omega.{arith}
+use Rattle.steps.specs.Tables.{Tables}
+use Rattle.steps.specs.Step.{tables_of}
+use Rattle.steps.proofs.SweepLaws.{begin, turned, end}
+use Rattle.cache.proofs.sets.sweep_sets.Goals as goal
+
+-- the tables as they were lent
+abbrev lent : goal.Start invariant-loop decreases-loop → Tables
+lent c = tables_of c.args.tags.now c.args.valid.now c.args.dirty.now c.args.words.now
+
+pub loop-set-init : goal.loop-set-init
+loop-set-init c =
+    begin c.args.g c.args.sweep (lent c) c.requires
+
+pub sweep_set-answer-requires : goal.sweep_set-answer-requires
+sweep_set-answer-requires c = (c.loop-set.invariant.shaped, c.loop-set-test.true)
+
+pub overflow_add-set : goal.overflow_add-set
+overflow_add-set c =
+    omega (arith, c.loop-set-test.true, c.requires.limited.most-sets)
+
+pub loop-set-smaller : goal.loop-set-smaller
+loop-set-smaller c =
+    omega (arith, c.loop-set-test.true)
+
+pub loop-set-preserved : goal.loop-set-preserved
+loop-set-preserved c =
+    let l = c.loop-set in
+    let last = c.sweep_set-answer.new.1 in
+    turned c.args.g c.args.sweep (lent c) (tables_of l.tags l.valid l.dirty l.words) c.requires l.invariant
+    c.loop-set-test.true {u = tables_of last.0 last.1.0 last.1.1.0 last.1.1.1.0} c.sweep_set-answer.ensures c.added-drops.ensures
+
+pub shape_of-tags : goal.shape_of-tags
+shape_of-tags c = c.loop-set.invariant.shaped.tags-long ∙ sym c.requires.tags-long
+
+pub shape_of-valid : goal.shape_of-valid
+shape_of-valid c = c.loop-set.invariant.shaped.valid-long ∙ sym c.requires.valid-long
+
+pub shape_of-dirty : goal.shape_of-dirty
+shape_of-dirty c = c.loop-set.invariant.shaped.dirty-long ∙ sym c.requires.dirty-long
+
+pub shape_of-words : goal.shape_of-words
+shape_of-words c = c.loop-set.invariant.shaped.words_long ∙ sym c.requires.words_long
+
+pub returns : goal.returns
+returns c =
+    let l = c.loop-set in
+    end c.args.g c.args.sweep (lent c) (tables_of l.tags l.valid l.dirty l.words) l.invariant c.loop-set-test.false

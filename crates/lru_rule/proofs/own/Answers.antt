@@ -1,0 +1,29 @@
+-- `lru_rule::own` meets its contract.
+use mathlib.Core.Path.{◌≡◌, sym, ◌∙◌}
+use mathlib.Core.Bool.{true}
+use Rattle.waymap.specs.Ways.{takes}
+use Rattle.waymap.proofs.NumberLaws.{takes_sized}
+use Rattle.lru_rule.specs.Calls.{own_of}
+use Rattle.lru_rule.proofs.CallLaws.{own_given}
+use Rattle.lru_rule.proofs.own.Goals as goal
+
+pub returns-else-takes : goal.returns-else-takes
+unfolding own_of
+returns-else-takes c = rw (sym c.takes.ensures ∙ c.if-takes.false)
+
+-- Behind its test the call is within the limits.
+module _ (c : goal.Then-takes) where
+  abbrev entry : goal.Start
+  entry = c.before.before
+
+  taken : takes entry.args.ways entry.args.map ≡ true
+  taken = sym c.takes.ensures ∙ c.if-takes.true
+
+pub read-requires : goal.read-requires
+read-requires c = takes_sized _ _ (taken c)
+
+pub pass-found-requires : goal.pass-found-requires
+pass-found-requires c = takes_sized _ _ (taken c.before)
+
+pub returns : goal.returns
+returns c = own_given _ _ _ (taken c.before.before) c.read.ensures c.pass-found.ensures.out_value

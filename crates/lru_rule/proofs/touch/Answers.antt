@@ -1,0 +1,41 @@
+-- `lru_rule::touch` meets its contract.
+use mathlib.Core.Path.{◌≡◌, sym, ◌∙◌}
+use mathlib.Core.Bool.{true}
+use native.Mathlib.Omega.{arith}
+use Rattle.waymap.specs.Ways.{takes}
+use Rattle.waymap.proofs.NumberLaws.{takes_sized, takes_way}
+use Rattle.lru_rule.specs.Calls.{touch_of}
+use Rattle.lru_rule.proofs.CallLaws.{rank_given, untouched, touch_given}
+use Rattle.lru_rule.proofs.touch.Goals as goal
+
+pub returns-else-takes : goal.returns-else-takes
+unfolding touch_of
+returns-else-takes c = rw (sym c.takes.ensures ∙ c.if-takes.false)
+
+-- Behind its test the call is within the limits.
+module _ (c : goal.Then-takes) where
+  abbrev entry : goal.Start
+  entry = c.before.before
+
+  taken : takes entry.args.ways entry.args.map ≡ true
+  taken = sym c.takes.ensures ∙ c.if-takes.true
+
+pub returns-else-has : goal.returns-else-has
+returns-else-has c = untouched _ _ _ (taken c.before.before) _ (sym c.has.ensures ∙ c.if-has.false)
+
+pub read-order-requires : goal.read-order-requires
+read-order-requires c = takes_sized _ _ (taken c.before.before)
+
+pub touched-requires : goal.touched-requires
+touched-requires c =
+    let h = takes_way _ _ (taken c) (entry c).ranges.map.fits (entry c).args.way (sym c.has.ensures ∙ c.if-has.true) in
+    record {
+    sized = takes_sized _ _ (taken c);
+    way_bound = (omega (arith, h, (takes_sized _ _ (taken c)).most), rank_given _ _ _ (taken c) (entry c).args.way h c.read-order.ensures);
+    order_bound = ;
+}
+
+pub returns : goal.returns
+returns c =
+    touch_given _ _ _ (taken c) _ (entry c).ranges.map.fits (sym c.has.ensures ∙ c.if-has.true)
+    c.read-order.ensures c.touched.ensures c.written.ensures

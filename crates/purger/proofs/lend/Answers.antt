@@ -1,0 +1,29 @@
+-- `purger::lend` meets its contract.
+use Prim.Native.Nat.{zero-le}
+use Rattle.tracefile.proofs.PlaceLaws.{front_long}
+use Rattle.purger.proofs.lend.Goals as goal
+
+pub slice_bounds-purge-count : goal.slice_bounds-purge-count
+slice_bounds-purge-count c = zero-le
+
+pub slice_bounds-purge-count-2 : goal.slice_bounds-purge-count-2
+slice_bounds-purge-count-2 c = zero-le
+
+pub slice_bounds-purge-count-3 : goal.slice_bounds-purge-count-3
+slice_bounds-purge-count-3 c = zero-le
+
+pub slice_bounds-purge-count-4 : goal.slice_bounds-purge-count-4
+slice_bounds-purge-count-4 c = zero-le
+
+pub purge-requires : goal.purge-requires
+purge-requires c =
+    let n = c.steps-n.result in (
+      front_long n c.codes-1.given.1,
+      (
+        front_long n c.arguments-1.given.1,
+        (
+          front_long n c.kept_codes-1.given.1,
+          front_long n c.kept_arguments-1.given.1,
+        ),
+      ),
+    )

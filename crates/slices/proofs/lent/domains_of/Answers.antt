@@ -1,0 +1,6 @@
+-- `slices::lent::domains_of` meets its contract.
+use Prim.Native.Nat.{◌-◌}
+use Rattle.slices.proofs.lent.domains_of.Goals as goal
+
+pub domain_at-own-requires : goal.domain_at-own-requires
+domain_at-own-requires c = (c.loop-d-test.true, c.requires)

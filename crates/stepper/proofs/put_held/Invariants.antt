@@ -1,0 +1,11 @@
+-- `stepper::put_held` meets its contract.
+use mathlib.Core.Path.{◌≡◌}
+use Prim.Native.Nat.{◌-◌}
+use lib.ListN.{length}
+use Rattle.stepper.proofs.put_held.Given as goal
+
+abbrev pub invariant-loop-d : goal.invariant-loop-d
+invariant-loop-d l = length l.out ≡ length l.initial.out
+
+abbrev pub decreases-loop-d : goal.decreases-loop-d
+decreases-loop-d l = 16 - l.d

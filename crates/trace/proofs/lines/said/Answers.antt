@@ -1,0 +1,40 @@
+-- `trace::lines::said` meets its contract.
+use mathlib.Core.Logic.{inl, inr}
+use mathlib.Core.Path.{refl}
+use Rattle.waymap.proofs.Booleans.{cases}
+use Rattle.listing.specs.Listing.{told}
+use Rattle.command.proofs.AnswerLaws.{bare}
+use Rattle.trace.proofs.LineLaws.{says}
+use Rattle.trace.proofs.lines.said.Goals as goal
+
+pub returns-in-Hit : goal.returns-in-Hit
+unfolding told
+returns-in-Hit c = says tt tt tt (rw c.answer-1.given.1)
+
+pub returns-in-Fill : goal.returns-in-Fill
+unfolding told
+returns-in-Fill c = says tt tt tt (rw c.answer-in-Fill-1.given.1)
+
+pub returns-in-Evict : goal.returns-in-Evict
+unfolding told
+returns-in-Evict c = says tt tt tt (rw c.answer-in-Evict-1.given.1 (cases c.answer-in-Evict-1.given.0.1.1.0 (λ t. rw t) (λ t. rw t)))
+
+pub returns-in-Pass : goal.returns-in-Pass
+unfolding told
+returns-in-Pass c = says tt tt tt (rw (bare c.args.answer 3 c.in-Pass.keys4 (inl refl)))
+
+pub returns-in-Flush : goal.returns-in-Flush
+unfolding told
+returns-in-Flush c = says tt tt tt (rw c.answer-in-Flush-1.given.1 (cases c.answer-in-Flush-1.given.0.1.0 (λ t. rw t) (λ t. rw t)))
+
+pub returns-in-Absent : goal.returns-in-Absent
+unfolding told
+returns-in-Absent c = says tt tt tt (rw (bare c.args.answer 5 c.in-Absent.keys6 (inr refl)))
+
+pub returns-in-Policy : goal.returns-in-Policy
+unfolding told
+returns-in-Policy c = says tt tt tt (rw c.answer-in-Policy-1.given.1)
+
+pub returns-in-Refused : goal.returns-in-Refused
+unfolding told
+returns-in-Refused c = says tt tt tt (rw c.answer-in-Refused-1.given.1)

@@ -1,0 +1,21 @@
+-- `trace::list` meets its contract.
+use Rattle.steps.specs.Step.{tables_of}
+use Rattle.trace.proofs.ListLaws.{refused_is, listed_counts}
+use borrow.Author.Rules.{rules}
+use Rattle.trace.proofs.list.Goals as goal
+
+pub returns-then-number-ne0 : goal.returns-then-number-ne0
+returns-then-number-ne0 c =
+    let given = c.args in
+    let refused = c.refused in
+    let is = refused_is given.file.now given.out.now refused.new.1.0
+    (tables_of given.tags.now given.valid.now given.dirty.now given.words.now)
+    c.refusal-number.ensures c.if-number-ne0.true (search rules) refused.ensures.0 refused.ensures.1 in
+    (is, listed_counts _ _ _ is)
+
+pub returns : goal.returns
+returns c =
+    record {
+    words_after = c.list_file.ensures;
+    prefix_len = listed_counts _ _ _ c.list_file.ensures;
+}

@@ -1,0 +1,57 @@
+-- `trace::list_file` meets its contract.
+use Prim.Native.Nat.{zero-le}
+use mir.Facts.{Fits-below}
+use Rattle.steps.specs.Step.{tables_of}
+use Rattle.trace.proofs.ListLaws.{fitting, lent_sized, listed_is}
+use Rattle.trace.proofs.list_file.Goals as goal
+
+pub overflow_mul-cells : goal.overflow_mul-cells
+overflow_mul-cells c =
+    Fits-below tt (fitting c.args.file.now c.named-g.ensures c.steps-steps.ensures c.requires.file_value c.requires.roomy).cells
+
+pub slice_bounds-listing-count : goal.slice_bounds-listing-count
+slice_bounds-listing-count c = zero-le
+
+pub slice_bounds-listing-count-2 : goal.slice_bounds-listing-count-2
+slice_bounds-listing-count-2 c = zero-le
+
+pub slice_bounds-listing-count-3 : goal.slice_bounds-listing-count-3
+slice_bounds-listing-count-3 c = zero-le
+
+pub slice_bounds-listing-count-4 : goal.slice_bounds-listing-count-4
+slice_bounds-listing-count-4 c = zero-le
+
+pub listing-requires : goal.listing-requires
+listing-requires c =
+    let room = fitting c.args.file.now c.named-g.ensures c.steps-steps.ensures c.requires.file_value c.requires.roomy in
+    record {
+    g_value = room.stands;
+    words_value = lent_sized room;
+    steps_le_max_steps = room.few-steps;
+    in_bounds = room.out-room;
+}
+
+pub shape_of-tags : goal.shape_of-tags
+shape_of-tags c = c.tags-1.given.1
+
+pub shape_of-valid : goal.shape_of-valid
+shape_of-valid c = c.valid-1.given.1
+
+pub shape_of-dirty : goal.shape_of-dirty
+shape_of-dirty c = c.dirty-1.given.1
+
+pub shape_of-words : goal.shape_of-words
+shape_of-words c = c.words-1.given.1
+
+pub shape_of-out : goal.shape_of-out
+shape_of-out c = c.listing.auto.out
+
+pub returns : goal.returns
+returns c =
+    let listed = c.listing in
+    let new = listed.new.1.1.1 in
+    let kept = listed.auto.1.1.1 in
+    listed_is c.args.file.now (tables_of new.0 new.1.0 new.1.1.0 new.1.1.1.0)
+    c.named-g.ensures c.steps-steps.ensures c.requires.file_value c.requires.roomy
+    (λ j. record { tags = kept.0 j; valid = kept.1.0 j; dirty = kept.1.1.0 j; words = kept.1.1.1.0 j })
+    listed.ensures.0 listed.ensures.1

@@ -1,0 +1,46 @@
+-- `trace::text::told` meets its contract.
+use mathlib.Core.Path.{◌∙◌}
+use native.Mathlib.Omega.{arith}
+use lib.ListN.{length, length-set}
+use Rattle.trace.specs.Inside.{written_of}
+use Rattle.trace.proofs.TextLaws.{told_is, word_inside, numbers_room, told_short}
+use Rattle.trace.proofs.text.told.Goals as goal
+
+pub bounds-out-next : goal.bounds-out-next
+bounds-out-next c =
+    let put = c.put-next in
+    let word = length c.args.word.now in
+    let count = length c.args.values.now in
+    word_inside c.args.at word count put.ensures.1 put.auto.1.0 c.requires
+
+pub overflow_add-next : goal.overflow_add-next
+overflow_add-next c =
+    let put = c.put-next in
+    let word = length c.args.word.now in
+    let count = length c.args.values.now in
+    let inside = word_inside c.args.at word count put.ensures.1 put.auto.1.0 c.requires in
+    omega (arith, inside)
+
+pub numbers-requires : goal.numbers-requires
+numbers-requires c =
+    let put = c.put-next in
+    let word = length c.args.word.now in
+    let count = length c.args.values.now in
+    numbers_room c.args.at word count put.ensures.1 put.auto.1.0 c.requires
+    (length-set put.new.1.0 put.result c.end_of.result)
+
+pub shape_of-out : goal.shape_of-out
+shape_of-out c =
+    let put = c.put-next in
+    c.numbers.auto.out ∙ length-set put.new.1.0 put.result c.end_of.result ∙ put.auto.1.0
+
+pub returns : goal.returns
+returns c =
+    let put = c.put-next in
+    let word = length c.args.word.now in
+    let count = length c.args.values.now in
+    let numbers = c.numbers in (
+      told_is c.args.word.now c.args.values.now (written_of c.args.at c.args.out.now)
+          put.ensures.0 c.end_of.ensures numbers.ensures.0,
+      told_short c.args.at word count put.ensures.1 put.auto.1.0 c.requires numbers.ensures.1,
+    )

@@ -1,0 +1,5 @@
+-- `tracefile::steps` meets its contract.
+use Rattle.tracefile.proofs.steps.Goals as goal
+
+pub returns : goal.returns
+returns c = c.u32_at.ensures

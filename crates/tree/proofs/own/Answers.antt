@@ -1,0 +1,20 @@
+-- `tree::own` meets its contract.
+use mathlib.Core.Path.{sym, ◌∙◌}
+use Rattle.waymap.specs.Bits.{bit}
+use Rattle.tree.specs.Calls.{own_of}
+use Rattle.tree.proofs.TreeWordLaws.{own_word}
+use Rattle.tree.proofs.CallLaws.{taken}
+use Rattle.tree.proofs.own.Goals as goal
+
+pub returns-else-takes : goal.returns-else-takes
+unfolding own_of
+returns-else-takes c = rw (sym c.takes.ensures ∙ c.if-takes.false)
+
+pub nodes_of-nodes-requires : goal.nodes_of-nodes-requires
+nodes_of-nodes-requires c = taken _ _ c.takes.ensures c.if-takes.true c.ranges.map.fits
+
+pub returns : goal.returns
+unfolding own_of
+returns c =
+    rw (sym c.takes.ensures ∙ c.if-takes.true)
+    (own_word c.args.ways (bit c.args.map) c.args.word c.ranges.word.fits c.nodes_of-nodes.ensures.free-is)

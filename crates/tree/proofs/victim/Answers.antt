@@ -1,0 +1,35 @@
+-- `tree::victim` meets its contract.
+use mathlib.Core.Path.{sym, ◌∙◌}
+use native.Mathlib.Omega.{arith}
+use Rattle.waymap.specs.Bits.{bit}
+use Rattle.waymap.proofs.NumberLaws.{takes_sized}
+use Rattle.tree.specs.Calls.{victim_of}
+use Rattle.tree.proofs.TreeWordLaws.{victim_word}
+use Rattle.tree.proofs.CallLaws.{taken}
+use Rattle.tree.proofs.victim.Goals as goal
+
+pub returns-else-takes : goal.returns-else-takes
+unfolding victim_of
+returns-else-takes c = rw (sym c.takes.ensures ∙ c.if-takes.false)
+
+pub nodes_of-nodes-requires : goal.nodes_of-nodes-requires
+nodes_of-nodes-requires c = taken _ _ c.takes.ensures c.if-takes.true c.ranges.map.fits
+
+pub overflow_sub-ways : goal.overflow_sub-ways
+overflow_sub-ways c =
+    omega (arith, (takes_sized c.args.ways c.args.map (sym c.takes.ensures ∙ c.if-takes.true)).least)
+
+pub walked-requires : goal.walked-requires
+walked-requires c =
+    takes_sized c.args.ways c.args.map (sym c.takes.ensures
+    ∙ c.if-takes.true)
+
+pub returns : goal.returns
+unfolding victim_of
+returns c =
+    let within = sym c.takes.ensures ∙ c.if-takes.true in
+    let nodes = c.nodes_of-nodes.ensures in
+    rw within
+    (c.walked.ensures
+    ∙ victim_word c.args.ways (bit c.args.map) c.args.word (takes_sized c.args.ways c.args.map within).most
+    c.all.ensures nodes.free-is nodes.right_is)
