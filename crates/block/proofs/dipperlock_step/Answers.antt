@@ -7,8 +7,8 @@ use Rattle.block.proofs.dipperlock_step.Goals as goal
 pub returns : goal.returns
 unfolding step_call
 returns c =
-    (
-      ap (λ (q : Replied). stepped_of q.result c.step-told.new.block q.answer) c.put.ensures
-          ∙ ap (λ (t : Turn). stepped_of (number_in t.told) t.block (filled t.told c.args.answer.now)) c.step-told.ensures.block_after,
-      c.step-told.ensures.block_after_2,
-    )
+    record {
+    answer_after = ap (λ (q : Replied). stepped_of q.result c.step-told.new.block q.answer) c.put.ensures
+          ∙ ap (λ (t : Turn). stepped_of (number_in t.told) t.block (filled t.told c.args.answer.now)) c.step-told.ensures.block_after;
+    block_after = c.step-told.ensures.block_after_2;
+}

@@ -15,19 +15,20 @@ use Rattle.cache.specs.Calls.{outcome}
 use Rattle.cache.specs.Inside.{deed_of}
 use Rattle.cache.specs.declared.Stepped.{Stepped}
 use Rattle.cache.proofs.step.Goals as goal
+use Rattle.cache.proofs.step.Goals.{Else-number-ne0, Start}
 
 -- the tables as they were lent
-abbrev lent : goal.Start → Tables
+abbrev lent : Start → Tables
 lent c = tables_of c.args.tags.now c.args.valid.now c.args.dirty.now c.args.words.now
 
 -- what numbers 1 and 2 let pass is within the limits and of the right lengths
-is-shaped : (c : goal.Else-number-ne0) → Shaped c.args.g (lent c.Start)
+is-shaped : (c : Else-number-ne0) → Shaped c.args.g (lent c.Start)
 is-shaped c =
     let passed = sizes_passed c.args.g (lengths (lent c.Start)) c.sizes-number.ensures c.if-number-ne0.false in
     shaped c.args.g (lent c.Start) passed.0 passed.1
 
 -- the drops that number 7 would look at
-abbrev drops : goal.Start → ℕ
+abbrev drops : Start → ℕ
 drops c = drops_of c.args.g c.args.domain c.args.argument (record { tables = lent c; domains = c.args.t6 })
 
 pub returns-then-number-ne0 : goal.returns-then-number-ne0

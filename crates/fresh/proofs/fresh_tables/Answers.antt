@@ -3,9 +3,10 @@ use Rattle.steps.specs.Tables.{Tables}
 use Rattle.steps.specs.Step.{tables_of}
 use Rattle.fresh.proofs.FillLaws.{fresh_refused, fresh_made}
 use Rattle.fresh.proofs.fresh_tables.Goals as goal
+use Rattle.fresh.proofs.fresh_tables.Goals.{Start}
 
 -- the tables as they were lent
-abbrev lent : goal.Start → Tables
+abbrev lent : Start → Tables
 lent c = tables_of c.args.tags.now c.args.valid.now c.args.dirty.now c.args.words.now
 
 pub returns-then-number-ne0 : goal.returns-then-number-ne0

@@ -27,7 +27,10 @@ returns-then-is_at c =
     let some = c.loop-left-test.true in
     let low = c.lowest_way-way.ensures in
     let here = next_matches inv some low c.is_at.ensures c.if-is_at.true in
-    (next_way inv some low here, ap₂ (λ (a r : ℕ). a - r) c.count_ways-all.ensures c.count_ways.ensures ∙ next_visited inv some low here)
+    record {
+    way_value = next_way inv some low here;
+    visited_value = ap₂ (λ (a r : ℕ). a - r) c.count_ways-all.ensures c.count_ways.ensures ∙ next_visited inv some low here;
+}
 
 pub loop-left-smaller : goal.loop-left-smaller
 loop-left-smaller c =

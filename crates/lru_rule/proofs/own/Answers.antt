@@ -6,14 +6,15 @@ use Rattle.waymap.proofs.NumberLaws.{takes_sized}
 use Rattle.lru_rule.specs.Calls.{own_of}
 use Rattle.lru_rule.proofs.CallLaws.{own_given}
 use Rattle.lru_rule.proofs.own.Goals as goal
+use Rattle.lru_rule.proofs.own.Goals.{Start, Then-takes}
 
 pub returns-else-takes : goal.returns-else-takes
 unfolding own_of
 returns-else-takes c = rw (sym c.takes.ensures ∙ c.if-takes.false)
 
 -- Behind its test the call is within the limits.
-module _ (c : goal.Then-takes) where
-  abbrev entry : goal.Start
+module _ (c : Then-takes) where
+  abbrev entry : Start
   entry = c.before.before
 
   taken : takes entry.args.ways entry.args.map ≡ true

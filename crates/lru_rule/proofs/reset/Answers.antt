@@ -9,14 +9,15 @@ use Rattle.lru_rule.specs.Calls.{reset_of}
 use Rattle.lru_rule.proofs.PlaceLaws.{formed_word, malformed_word}
 use Rattle.lru_rule.proofs.CallLaws.{reset_given}
 use Rattle.lru_rule.proofs.reset.Goals as goal
+use Rattle.lru_rule.proofs.reset.Goals.{Start, Then-takes}
 
 pub returns-else-takes : goal.returns-else-takes
 unfolding reset_of
 returns-else-takes c = rw (sym c.takes.ensures ∙ c.if-takes.false)
 
 -- Behind its test the call is within the limits.
-module _ (c : goal.Then-takes) where
-  abbrev entry : goal.Start
+module _ (c : Then-takes) where
+  abbrev entry : Start
   entry = c.before.before
 
   taken : takes entry.args.ways entry.args.moves.ways ≡ true
@@ -29,7 +30,7 @@ pass-found-requires c = takes_sized _ _ (taken c)
 pub returns-then-found : goal.returns-then-found
 returns-then-found c =
     let found = c.pass-found in
-    reset_given _ _ _ (taken c) _ (omega (arith, (entry c).well-formed))
+    reset_given _ _ _ (taken c) _ (omega (arith, (entry c).well_formed))
     (formed_word _ _ (not-true _ (sym found.ensures.0 ∙ c.if-found.true))) found.ensures.1 c.written.ensures
 
 pub fresh-order-requires : goal.fresh-order-requires
@@ -42,6 +43,6 @@ pass-again-requires c = takes_sized _ _ (taken c.before.before.before)
 pub returns : goal.returns
 returns c =
     let found = c.pass-found in
-    reset_given _ _ _ (taken c) _ (omega (arith, (entry c).well-formed))
+    reset_given _ _ _ (taken c) _ (omega (arith, (entry c).well_formed))
     (c.fresh-order.ensures ∙ malformed_word _ _ (not-false _ (sym found.ensures.0 ∙ c.if-found.false)))
     c.pass-again.ensures.out_value c.written-2.ensures

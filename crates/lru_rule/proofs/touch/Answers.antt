@@ -7,14 +7,15 @@ use Rattle.waymap.proofs.NumberLaws.{takes_sized, takes_way}
 use Rattle.lru_rule.specs.Calls.{touch_of}
 use Rattle.lru_rule.proofs.CallLaws.{rank_given, untouched, touch_given}
 use Rattle.lru_rule.proofs.touch.Goals as goal
+use Rattle.lru_rule.proofs.touch.Goals.{Start, Then-takes}
 
 pub returns-else-takes : goal.returns-else-takes
 unfolding touch_of
 returns-else-takes c = rw (sym c.takes.ensures ∙ c.if-takes.false)
 
 -- Behind its test the call is within the limits.
-module _ (c : goal.Then-takes) where
-  abbrev entry : goal.Start
+module _ (c : Then-takes) where
+  abbrev entry : Start
   entry = c.before.before
 
   taken : takes entry.args.ways entry.args.map ≡ true
@@ -31,8 +32,8 @@ touched-requires c =
     let h = takes_way _ _ (taken c) (entry c).ranges.map.fits (entry c).args.way (sym c.has.ensures ∙ c.if-has.true) in
     record {
     sized = takes_sized _ _ (taken c);
-    way_bound = (omega (arith, h, (takes_sized _ _ (taken c)).most), rank_given _ _ _ (taken c) (entry c).args.way h c.read-order.ensures);
-    order_bound = ;
+    way_bound = omega (arith, h, (takes_sized _ _ (taken c)).most);
+    order_bound = rank_given _ _ _ (taken c) (entry c).args.way h c.read-order.ensures;
 }
 
 pub returns : goal.returns

@@ -6,14 +6,15 @@ use Rattle.waymap.proofs.NumberLaws.{takes_sized}
 use Rattle.lru_rule.specs.Calls.{victim_of}
 use Rattle.lru_rule.proofs.CallLaws.{victim_given}
 use Rattle.lru_rule.proofs.victim.Goals as goal
+use Rattle.lru_rule.proofs.victim.Goals.{Start, Then-takes}
 
 pub returns-else-takes : goal.returns-else-takes
 unfolding victim_of
 returns-else-takes c = rw (sym c.takes.ensures ∙ c.if-takes.false)
 
 -- Behind its test the call is within the limits.
-module _ (c : goal.Then-takes) where
-  abbrev entry : goal.Start
+module _ (c : Then-takes) where
+  abbrev entry : Start
   entry = c.before.before
 
   taken : takes entry.args.ways entry.args.map ≡ true

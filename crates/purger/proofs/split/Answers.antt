@@ -11,6 +11,7 @@ use mir.Facts.{Fits-le}
 use borrow.Author.Count.{falls}
 use Rattle.tracefile.proofs.PlaceLaws.{place_fits, next_fits}
 use Rattle.purger.proofs.split.Goals as goal
+use Rattle.purger.proofs.split.Goals.{In-loop-i, Start}
 
 -- A place below a number of 32 bits, in elements of k bytes, in as many bits as an offset has.
 offset-fits : {k i n : ℕ} → k ≤ 8 → i < n → Fits w32 n → Fits w64 (i * k)
@@ -20,7 +21,7 @@ offset-fits {k} {i} {n} small h f = Fits-le (mul-le-mul_left i small) (record { 
 within : {i n long given : ℕ} → i < n → n ≤ given → long ≡ given → i < long
 within h room e = lt_of_lt_of_le h (le_trans room (le_of_eq (sym e)))
 
-abbrev entry : goal.In-loop-i invariant-loop decreases-loop → goal.Start invariant-loop decreases-loop
+abbrev entry : In-loop-i invariant-loop decreases-loop → Start invariant-loop decreases-loop
 entry c = c.before.before.before.before.before
 
 pub loop-i-init : goal.loop-i-init

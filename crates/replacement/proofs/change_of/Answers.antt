@@ -9,6 +9,7 @@ use Rattle.replacement.proofs.CallLaws.{two, either_reach}
 use borrow.Author.Tests.{eq-eqb, ne_eqb}
 use Rattle.tree.proofs.change.Reads as change-reads'
 use Rattle.replacement.proofs.change_of.Goals as goal
+use Rattle.replacement.proofs.change_of.Goals.{Start, Then-fits}
 
 pub returns-else-in_limits : goal.returns-else-in_limits
 unfolding change_of
@@ -25,8 +26,8 @@ returns-else-fits c =
     )
 
 -- Behind its two tests the maps are within the limits.
-module _ (c : goal.Then-fits) where
-  abbrev entry : goal.Start
+module _ (c : Then-fits) where
+  abbrev entry : Start
   entry = c.before.before.before.before
 
   limits : in_limits entry.args.ways entry.args.rule ≡ true

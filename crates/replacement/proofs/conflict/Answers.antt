@@ -7,6 +7,7 @@ use Rattle.waymap.specs.Bits.{reaches}
 use Rattle.replacement.specs.Calls.{in_limits, shares_of}
 use Rattle.replacement.proofs.CallLaws.{either_reach, no_nodes, shares_given, shares_by_tree}
 use Rattle.replacement.proofs.conflict.Goals as goal
+use Rattle.replacement.proofs.conflict.Goals.{Start, Then-fits}
 
 pub returns-else-in_limits : goal.returns-else-in_limits
 unfolding shares_of
@@ -23,8 +24,8 @@ returns-else-fits c =
     )
 
 -- Behind its two tests no call is refused.
-module _ (c : goal.Then-fits) where
-  abbrev entry : goal.Start
+module _ (c : Then-fits) where
+  abbrev entry : Start
   entry = c.before.before.before.before
 
   limits : in_limits entry.args.ways entry.args.rule ≡ true

@@ -4,13 +4,14 @@ use mathlib.Core.Bool.{true}
 use Rattle.replacement.specs.Calls.{in_limits, fresh_of}
 use Rattle.replacement.proofs.CallLaws.{ways, is_tree, is_nru, is_lru, nru_fresh, lru_fresh, fresh_given}
 use Rattle.replacement.proofs.fresh.Goals as goal
+use Rattle.replacement.proofs.fresh.Goals.{Then-in_limits}
 
 pub returns-else-in_limits : goal.returns-else-in_limits
 unfolding fresh_of
 returns-else-in_limits c = rw (sym c.in_limits.ensures ∙ c.if-in_limits.false)
 
 -- Behind its test the call is not refused.
-limits : (c : goal.Then-in_limits) → in_limits c.args.ways c.args.rule ≡ true
+limits : (c : Then-in_limits) → in_limits c.args.ways c.args.rule ≡ true
 limits c = sym c.in_limits.ensures ∙ c.if-in_limits.true
 
 pub returns-then-rule-eq0 : goal.returns-then-rule-eq0

@@ -8,6 +8,7 @@ use Rattle.nru.specs.Calls as Nru
 use Rattle.replacement.specs.Calls.{in_limits, own_of}
 use Rattle.replacement.proofs.CallLaws.{ways, is_tree, is_nru, is_lru, tree_own, lru_own, own_given}
 use Rattle.replacement.proofs.own.Goals as goal
+use Rattle.replacement.proofs.own.Goals.{Start, Then-fits}
 
 pub returns-else-in_limits : goal.returns-else-in_limits
 unfolding own_of
@@ -18,8 +19,8 @@ unfolding own_of
 returns-else-fits c = rw (sym c.in_limits.ensures ∙ c.if-in_limits.true, sym c.fits.ensures ∙ c.if-fits.false)
 
 -- Behind its two tests no call is refused.
-module _ (c : goal.Then-fits) where
-  abbrev entry : goal.Start
+module _ (c : Then-fits) where
+  abbrev entry : Start
   entry = c.before.before.before.before
 
   limits : in_limits entry.args.ways entry.args.rule ≡ true

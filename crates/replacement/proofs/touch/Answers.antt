@@ -9,6 +9,7 @@ use Rattle.replacement.specs.Calls.{in_limits, touch_of}
 use Rattle.replacement.proofs.CallLaws.{ways, is_tree, is_nru, is_lru, tree_touch, lru_touch, touch_given}
 use Rattle.tree.proofs.touch.Reads as touch-reads'
 use Rattle.replacement.proofs.touch.Goals as goal
+use Rattle.replacement.proofs.touch.Goals.{Else-ways-way, Start}
 
 pub returns-else-in_limits : goal.returns-else-in_limits
 unfolding touch_of
@@ -30,8 +31,8 @@ returns-then-ways-way c =
     )
 
 -- Behind its three tests no call is refused.
-module _ (c : goal.Else-ways-way) where
-  abbrev entry : goal.Start
+module _ (c : Else-ways-way) where
+  abbrev entry : Start
   entry = c.before.before.before.before.before
 
   limits : in_limits entry.args.ways entry.args.rule ≡ true

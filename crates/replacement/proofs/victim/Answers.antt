@@ -8,6 +8,7 @@ use Rattle.replacement.specs.Calls.{in_limits, victim_of}
 use Rattle.replacement.proofs.CallLaws.{some_way, victim_by_tree, victim_by_nru, victim_by_lru}
 use Rattle.tree.proofs.victim.Reads as victim-reads'
 use Rattle.replacement.proofs.victim.Goals as goal
+use Rattle.replacement.proofs.victim.Goals.{Start, Then-fits}
 
 pub returns-else-in_limits : goal.returns-else-in_limits
 unfolding victim_of
@@ -26,8 +27,8 @@ returns-else-fits c = rw (
 )
 
 -- Behind its three tests no call is refused.
-module _ (c : goal.Then-fits) where
-  abbrev entry : goal.Start
+module _ (c : Then-fits) where
+  abbrev entry : Start
   entry = c.before.before.before.before.before
 
   limits : in_limits entry.args.ways entry.args.rule ≡ true

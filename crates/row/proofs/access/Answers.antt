@@ -8,13 +8,14 @@ use Rattle.row.specs.Inside.{Usable}
 use Rattle.row.proofs.RuleLaws.{fill_usable}
 use Rattle.row.proofs.WorkLaws.{serve_hit, serve_pass, serve_miss, some_fill, no_fill}
 use Rattle.row.proofs.access.Goals as goal
+use Rattle.row.proofs.access.Goals.{After-as_read-read}
 
 -- within the limits
-limits : (r : goal.After-as_read-read) → in_limits (length r.args.tags.now) r.args.rule ≡ true
+limits : (r : After-as_read-read) → in_limits (length r.args.tags.now) r.args.rule ≡ true
 limits r = sym r.in_limits.ensures ∙ r.if-in_limits.true
 
 -- the fill map as read
-usable : (r : goal.After-as_read-read) → Usable (length r.args.tags.now) r.args.rule r.as_read-read.result.fill
+usable : (r : After-as_read-read) → Usable (length r.args.tags.now) r.args.rule r.as_read-read.result.fill
 usable r = fill_usable (length r.args.tags.now) r.args.rule r.args.maps r.as_read-read.ensures (limits r)
 
 pub returns-else-in_limits : goal.returns-else-in_limits

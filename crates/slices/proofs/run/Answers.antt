@@ -4,8 +4,9 @@ use Prim.Native.Nat.{◌-◌}
 use borrow.Author.Count.{falls}
 use Rattle.tracefile.proofs.PlaceLaws.{next_fits}
 use Rattle.slices.proofs.run.Goals as goal
+use Rattle.slices.proofs.run.Goals.{In-loop-i, Start}
 
-abbrev entry : goal.In-loop-i invariant-loop decreases-loop → goal.Start invariant-loop decreases-loop
+abbrev entry : In-loop-i invariant-loop decreases-loop → Start invariant-loop decreases-loop
 entry c = c.before.before.before.before.before.before.before
 
 pub loop-i-init : goal.loop-i-init

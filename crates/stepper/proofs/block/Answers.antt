@@ -6,10 +6,14 @@ use Rattle.stepper.proofs.block.Goals as goal
 
 pub show-shown-requires : goal.show-shown-requires
 show-shown-requires c =
-    let span = c.Span-of.ensures in (
-      rows_below span.1 c.requires.rows,
-      (span.0, (le_trans span.1 c.requires.small.few-sets, (c.requires.small.few-ways, c.requires.max_file_sets_in_bounds))),
-    )
+    let span = c.Span-of.ensures in
+    record {
+    rows = rows_below span.1 c.requires.rows;
+    from_le_to = span.0;
+    to_le_max_file_sets = le_trans span.1 c.requires.small.few_sets;
+    ways_bound = c.requires.small.few_ways;
+    max_file_sets_in_bounds = c.requires.max_file_sets_in_bounds;
+}
 
 pub shape_of-tags-then-i-n : goal.shape_of-tags-then-i-n
 shape_of-tags-then-i-n c = refl

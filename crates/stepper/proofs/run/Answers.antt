@@ -6,15 +6,19 @@ use Rattle.stepper.proofs.RowLaws.{held_room, rows_kept, block_less}
 use Rattle.stepper.proofs.run.Goals as goal
 
 pub loop-i-init : goal.loop-i-init
-loop-i-init c = record { tags-same = refl; valid_same = refl; dirty-same = refl; words_same = refl; out-same = refl }
+loop-i-init c = record { tags_same = refl; valid_same = refl; dirty_same = refl; words_same = refl; out_same = refl }
 
 pub block-shown-requires : goal.block-shown-requires
 block-shown-requires c =
     let kept = c.loop-i.invariant in
     let made = c.fresh_tables.auto.1 in
-    let rows = rows_kept (kept.tags-same ∙ made.0) (kept.valid_same ∙ made.1.0) (kept.dirty-same ∙ made.1.1.0)
+    let rows = rows_kept (kept.tags_same ∙ made.0) (kept.valid_same ∙ made.1.0) (kept.dirty_same ∙ made.1.1.0)
     (kept.words_same ∙ made.1.1.1.0) c.requires.rows in
-    (c.requires.small, (rows, le_trans c.requires.max_file_sets_in_bounds (le_of_eq (sym kept.out-same))))
+    record {
+    small = c.requires.small;
+    rows = rows;
+    max_file_sets_in_bounds = le_trans c.requires.max_file_sets_in_bounds (le_of_eq (sym kept.out_same));
+}
 
 pub loop-i-smaller : goal.loop-i-smaller
 loop-i-smaller c =
@@ -25,21 +29,21 @@ loop-i-preserved c =
     let kept = c.loop-i.invariant in
     let left = c.block-shown.auto.1.1.1.1 in
     record {
-      tags-same = left.0 ∙ kept.tags-same;
+      tags_same = left.0 ∙ kept.tags_same;
       valid_same = left.1.0 ∙ kept.valid_same;
-      dirty-same = left.1.1.0 ∙ kept.dirty-same;
+      dirty_same = left.1.1.0 ∙ kept.dirty_same;
       words_same = left.1.1.1.0 ∙ kept.words_same;
-      out-same = left.1.1.1.1.1.0 ∙ kept.out-same;
+      out_same = left.1.1.1.1.1.0 ∙ kept.out_same;
     }
 
 pub show_held-held-requires : goal.show_held-held-requires
 show_held-held-requires c =
-    held_room c.loop-i.invariant.out-same c.requires.max_file_sets_in_bounds
+    held_room c.loop-i.invariant.out_same c.requires.max_file_sets_in_bounds
 
 pub shape_of-tags : goal.shape_of-tags
 shape_of-tags c =
     let made = c.fresh_tables in
-    c.loop-i.invariant.tags-same ∙ made.auto.1.0
+    c.loop-i.invariant.tags_same ∙ made.auto.1.0
 
 pub shape_of-valid : goal.shape_of-valid
 shape_of-valid c =
@@ -49,7 +53,7 @@ shape_of-valid c =
 pub shape_of-dirty : goal.shape_of-dirty
 shape_of-dirty c =
     let made = c.fresh_tables in
-    c.loop-i.invariant.dirty-same ∙ made.auto.1.1.1.0
+    c.loop-i.invariant.dirty_same ∙ made.auto.1.1.1.0
 
 pub shape_of-words : goal.shape_of-words
 shape_of-words c =
@@ -58,4 +62,4 @@ shape_of-words c =
 
 pub shape_of-out : goal.shape_of-out
 shape_of-out c =
-    c.show_held-held.auto.out ∙ c.loop-i.invariant.out-same
+    c.show_held-held.auto.out ∙ c.loop-i.invariant.out_same

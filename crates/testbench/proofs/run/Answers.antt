@@ -3,9 +3,10 @@ use Prim.Native.Nat.{◌-◌, ◌<◌}
 use native.Mathlib.Omega.{arith}
 use Rattle.script.proofs.ScriptLaws.{line_grows}
 use Rattle.testbench.proofs.run.Goals as goal
+use Rattle.testbench.proofs.run.Goals.{After-line_after-next}
 
 -- The next line begins further on.
-further : (c : goal.After-line_after-next invariant-loop decreases-loop) → c.before.before.loop.from < c.line_after.result
+further : (c : After-line_after-next invariant-loop decreases-loop) → c.before.before.loop.from < c.line_after.result
 further c =
     let grows = line_grows c.before.before.before.before.args.text.now c.before.before.loop.from c.before.loop-test.true in
     omega (arith, grows, c.line_after.ensures.0)

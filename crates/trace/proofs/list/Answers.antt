@@ -11,7 +11,10 @@ returns-then-number-ne0 c =
     let is = refused_is given.file.now given.out.now refused.new.1.0
     (tables_of given.tags.now given.valid.now given.dirty.now given.words.now)
     c.refusal-number.ensures c.if-number-ne0.true (search rules) refused.ensures.0 refused.ensures.1 in
-    (is, listed_counts _ _ _ is)
+    record {
+    words_after = is;
+    prefix_len = listed_counts _ _ _ is;
+}
 
 pub returns : goal.returns
 returns c =

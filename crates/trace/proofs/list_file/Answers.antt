@@ -27,8 +27,8 @@ listing-requires c =
     record {
     g_value = room.stands;
     words_value = lent_sized room;
-    steps_le_max_steps = room.few-steps;
-    in_bounds = room.out-room;
+    steps_le_max_steps = room.few_steps;
+    in_bounds = room.out_room;
 }
 
 pub shape_of-tags : goal.shape_of-tags

@@ -54,7 +54,7 @@ loop-i-preserved c =
     let tables = tables_of left.0 left.1.0 left.1.1.0 left.1.1.1.0 in
     let cores = set looped.cores (step.domain % max_cores) turned.result.core in
     run_turned step (result_of turned.result.stepped tables cores) looped.invariant c.loop-i-test.true c.command_at-command.ensures
-    (placed_step _ step _ looped.invariant.cores-long _ turned.result tables refl turned.ensures)
+    (placed_step _ step _ looped.invariant.cores_long _ turned.result tables refl turned.ensures)
     (λ j. record { tags = kept.1.0 j; valid = kept.1.1.0 j; dirty = kept.1.1.1.0 j; words = kept.1.1.1.1.0 j })
     (length-set looped.cores (step.domain % max_cores) turned.result.core) answered.ensures.0 answered.ensures.1
 
@@ -62,16 +62,16 @@ pub domains-requires : goal.domains-requires
 domains-requires c = run_rest c.loop-i.invariant
 
 pub shape_of-tags : goal.shape_of-tags
-shape_of-tags c = ap (λ (n : Lengths). n.tags) c.loop-i.invariant.tables-long
+shape_of-tags c = ap (λ (n : Lengths). n.tags) c.loop-i.invariant.tables_long
 
 pub shape_of-valid : goal.shape_of-valid
-shape_of-valid c = ap (λ (n : Lengths). n.valid) c.loop-i.invariant.tables-long
+shape_of-valid c = ap (λ (n : Lengths). n.valid) c.loop-i.invariant.tables_long
 
 pub shape_of-dirty : goal.shape_of-dirty
-shape_of-dirty c = ap (λ (n : Lengths). n.dirty) c.loop-i.invariant.tables-long
+shape_of-dirty c = ap (λ (n : Lengths). n.dirty) c.loop-i.invariant.tables_long
 
 pub shape_of-words : goal.shape_of-words
-shape_of-words c = ap (λ (n : Lengths). n.words) c.loop-i.invariant.tables-long
+shape_of-words c = ap (λ (n : Lengths). n.words) c.loop-i.invariant.tables_long
 
 pub shape_of-out : goal.shape_of-out
 shape_of-out c = c.domains.auto.out ∙ c.loop-i.invariant.long
@@ -79,7 +79,8 @@ shape_of-out c = c.domains.auto.out ∙ c.loop-i.invariant.long
 pub returns : goal.returns
 returns c =
     let named = c.domains in
-    let looped = c.loop-i in (
-      run_ended looped.invariant c.loop-i-test.false c.fresh_domains.ensures refl named.ensures.0,
-      run_short looped.invariant named.ensures.1,
-    )
+    let looped = c.loop-i in
+    record {
+    out_after = run_ended looped.invariant c.loop-i-test.false c.fresh_domains.ensures refl named.ensures.0;
+    upper_bound = run_short looped.invariant named.ensures.1;
+}

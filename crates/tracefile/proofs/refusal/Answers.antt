@@ -4,6 +4,7 @@ use mathlib.Core.Bool.{Bool, cond, not}
 use Rattle.tracefile.specs.File.{file_refusal}
 use Rattle.tracefile.proofs.FileLaws.{bad_short, bad_length, bad_steps, bad_sets, good_file}
 use Rattle.tracefile.proofs.refusal.Goals as goal
+use Rattle.tracefile.proofs.refusal.Goals.{After-within}
 
 pub returns-then-file-lt8 : goal.returns-then-file-lt8
 returns-then-file-lt8 c = bad_short c.args.file.now c.if-file-lt8.true
@@ -22,7 +23,7 @@ returns-then-g-gt-MAX_SETS c =
     c.if-n-gt-MAX_STEPS.false c.named-g.ensures c.if-g-gt-MAX_SETS.true
 
 -- a file that 10 does not refuse goes by its geometry
-by-limits : (c : goal.After-within)
+by-limits : (c : After-within)
     → cond (not c.within.result) 1 0 ≡ file_refusal c.args.file.now
 by-limits c =
     good_file c.args.file.now c.steps-n.ensures c.if-file-lt8.false c.if-file-n.false

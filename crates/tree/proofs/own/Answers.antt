@@ -11,10 +11,12 @@ unfolding own_of
 returns-else-takes c = rw (sym c.takes.ensures ∙ c.if-takes.false)
 
 pub nodes_of-nodes-requires : goal.nodes_of-nodes-requires
-nodes_of-nodes-requires c = taken _ _ c.takes.ensures c.if-takes.true c.ranges.map.fits
+nodes_of-nodes-requires c =
+    let all = taken _ _ c.takes.ensures c.if-takes.true c.ranges.map.fits in
+    record { sized = all.0; map_bound = all.1 }
 
 pub returns : goal.returns
 unfolding own_of
 returns c =
     rw (sym c.takes.ensures ∙ c.if-takes.true)
-    (own_word c.args.ways (bit c.args.map) c.args.word c.ranges.word.fits c.nodes_of-nodes.ensures.free-is)
+    (own_word c.args.ways (bit c.args.map) c.args.word c.ranges.word.fits c.nodes_of-nodes.ensures.free_is)

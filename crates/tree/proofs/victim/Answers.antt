@@ -13,7 +13,9 @@ unfolding victim_of
 returns-else-takes c = rw (sym c.takes.ensures ∙ c.if-takes.false)
 
 pub nodes_of-nodes-requires : goal.nodes_of-nodes-requires
-nodes_of-nodes-requires c = taken _ _ c.takes.ensures c.if-takes.true c.ranges.map.fits
+nodes_of-nodes-requires c =
+    let all = taken _ _ c.takes.ensures c.if-takes.true c.ranges.map.fits in
+    record { sized = all.0; map_bound = all.1 }
 
 pub overflow_sub-ways : goal.overflow_sub-ways
 overflow_sub-ways c =
@@ -32,4 +34,4 @@ returns c =
     rw within
     (c.walked.ensures
     ∙ victim_word c.args.ways (bit c.args.map) c.args.word (takes_sized c.args.ways c.args.map within).most
-    c.all.ensures nodes.free-is nodes.right_is)
+    c.all.ensures nodes.free_is nodes.right_is)

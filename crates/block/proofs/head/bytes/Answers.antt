@@ -11,7 +11,7 @@ pub overflow_mul-result-2 : goal.overflow_mul-result-2
 overflow_mul-result-2 c = omega (arith, rows_bound c.args.g c.requires)
 
 pub overflow_add-result-2 : goal.overflow_add-result-2
-overflow_add-result-2 c = omega (arith, rows_bound c.args.g c.requires, c.requires.most-sets)
+overflow_add-result-2 c = omega (arith, rows_bound c.args.g c.requires, c.requires.most_sets)
 
 pub returns : goal.returns
 unfolding sizes

@@ -5,9 +5,10 @@ use Rattle.geometry.proofs.GeometryLaws.{rows_bound}
 use Rattle.steps.proofs.SetLaws.{row_within}
 use Rattle.block.specs.Layout.{sizes}
 use Rattle.block.proofs.layout.places_of.Goals as goal
+use Rattle.block.proofs.layout.places_of.Goals.{After-struct_known-1}
 
 -- the first tag of the set is one of the table
-bound : (c : goal.After-struct_known-1) → c.args.set * c.args.g.ways ≤ max_sets * 16
+bound : (c : After-struct_known-1) → c.args.set * c.args.g.ways ≤ max_sets * 16
 bound c =
     omega (
       arith,
@@ -22,8 +23,8 @@ pub overflow_mul-result-7 : goal.overflow_mul-result-7
 overflow_mul-result-7 c = omega (arith, bound (goal.at.overflow_mul-result-7 c).After-struct_known-1)
 
 pub overflow_add-result-7 : goal.overflow_add-result-7
-overflow_add-result-7 c = omega (arith, bound (goal.at.overflow_add-result-7 c).After-struct_known-1, c.requires.limited.most-sets)
+overflow_add-result-7 c = omega (arith, bound (goal.at.overflow_add-result-7 c).After-struct_known-1, c.requires.limited.most_sets)
 
 pub returns : goal.returns
 unfolding sizes
-returns c = record { valid-is = omega arith; dirty-is = omega arith; word-is = omega arith; row_is = omega arith }
+returns c = record { valid_is = omega arith; dirty_is = omega arith; word_is = omega arith; row_is = omega arith }

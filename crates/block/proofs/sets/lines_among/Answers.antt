@@ -12,10 +12,10 @@ pub loop-set-init : goal.loop-set-init
 loop-set-init c = begin _ _
 
 pub overflow_mul-set : goal.overflow_mul-set
-overflow_mul-set c = omega (arith, c.requires.limited.most-sets)
+overflow_mul-set c = omega (arith, c.requires.limited.most_sets)
 
 pub overflow_add-set : goal.overflow_add-set
-overflow_add-set c = omega (arith, c.requires.limited.most-sets)
+overflow_add-set c = omega (arith, c.requires.limited.most_sets)
 
 pub overflow_add-set-in-loop-set : goal.overflow_add-set-in-loop-set
 overflow_add-set-in-loop-set c = omega (arith, c.loop-set-test.true)

@@ -8,7 +8,7 @@ use Rattle.block.proofs.sets.sweep_set.Goals as goal
 pub sweep_row-requires : goal.sweep_row-requires
 sweep_row-requires c =
     let at = c.places_of-at in
-    rw (row_cut c.args.g.ways c.requires.blocked.limited.most-ways)
+    rw (row_cut c.args.g.ways c.requires.blocked.limited.most_ways)
     (row_room c.args.g c.args.block.now c.requires.blocked c.args.set c.requires.set_lt_sets at.result at.ensures)
 
 pub returns : goal.returns
@@ -17,4 +17,4 @@ returns c =
     set_worked a.g a.block.now c.requires.blocked a.set c.requires.set_lt_sets c.places_of-at.result c.places_of-at.ensures
     (sweep_by a.sweep)
     (subst (λ (W : ℕ). RowWorked c.places_of-at.result (sweep_by a.sweep) W a.block.now c.sweep_row.result c.sweep_row.new.block)
-    (row_cut a.g.ways c.requires.blocked.limited.most-ways) c.sweep_row.ensures)
+    (row_cut a.g.ways c.requires.blocked.limited.most_ways) c.sweep_row.ensures)

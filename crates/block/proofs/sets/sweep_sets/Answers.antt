@@ -7,11 +7,15 @@ pub loop-set-init : goal.loop-set-init
 loop-set-init c = clean_begin c.args.g c.args.sweep c.args.block.now c.requires
 
 pub sweep_set-answer-requires : goal.sweep_set-answer-requires
-sweep_set-answer-requires c = (clean_blocked c.loop-set.invariant c.requires, c.loop-set-test.true)
+sweep_set-answer-requires c =
+    record {
+    blocked = clean_blocked c.loop-set.invariant c.requires;
+    set_lt_sets = c.loop-set-test.true;
+}
 
 pub overflow_add-set : goal.overflow_add-set
 overflow_add-set c =
-    omega (arith, c.loop-set-test.true, c.requires.limited.most-sets)
+    omega (arith, c.loop-set-test.true, c.requires.limited.most_sets)
 
 pub loop-set-smaller : goal.loop-set-smaller
 loop-set-smaller c = omega (arith, c.loop-set-test.true)

@@ -12,14 +12,17 @@ use Rattle.block.proofs.sets.use_set.Goals as goal
 pub places_of-at-requires : goal.places_of-at-requires
 unfolding place_of
 places_of-at-requires c =
-    (c.requires.limited, rw c.place_of-found.ensures (set_below c.args.g c.args.address c.requires.limited))
+    record {
+    limited = c.requires.limited;
+    set_lt_sets = rw c.place_of-found.ensures (set_below c.args.g c.args.address c.requires.limited);
+}
 
 pub use_row-requires : goal.use_row-requires
 unfolding place_of
 use_row-requires c =
     let found = c.place_of-found in
     let at = c.places_of-at in
-    rw (row_cut c.args.g.ways c.requires.limited.most-ways)
+    rw (row_cut c.args.g.ways c.requires.limited.most_ways)
     (row_room c.args.g c.args.block.now c.requires found.result.set
     (rw found.ensures (set_below c.args.g c.args.address c.requires.limited)) at.result at.ensures)
 
@@ -30,7 +33,7 @@ returns c =
     let a = c.args in
     let block = a.block.now in
     let worked = subst (λ (W : ℕ). RowWorked c.places_of-at.result (use_of a.usage a.g.rule a.maps found.result.tag) W block
-    c.use_row.result c.use_row.new.block) (row_cut a.g.ways c.requires.limited.most-ways) c.use_row.ensures in
+    c.use_row.result c.use_row.new.block) (row_cut a.g.ways c.requires.limited.most_ways) c.use_row.ensures in
     set_worked a.g block c.requires found.result.set (rw found.ensures (set_below a.g a.address c.requires.limited))
     c.places_of-at.result c.places_of-at.ensures (use_of a.usage a.g.rule a.maps found.result.tag) worked
     ∙ ap (λ (q : Place). work_did (on_row a.g.ways q.set (use_of a.usage a.g.rule a.maps q.tag) (contents a.g block).state.tables)

@@ -10,5 +10,5 @@ returns c =
     let map = c.drop_ways-map.ensures in
     let shaped = tables_shaped a.g a.block.now c.requires in
     judged_near a.g.ways a.old a.policies a.d a.argument (tables_in a.g a.block.now).valid
-    (le_trans (le_of_eq shaped.valid-long) c.requires.limited.most-sets) c.held_elsewhere-held.ensures
+    (le_trans (le_of_eq shaped.valid_long) c.requires.limited.most_sets) c.held_elsewhere-held.ensures
     (rw c.new_maps.ensures at map) c.lines_among.ensures

@@ -5,51 +5,58 @@ use Rattle.block.proofs.work.step.Goals as goal
 pub returns-then-misfit-ne0 : goal.returns-then-misfit-ne0
 returns-then-misfit-ne0 c =
     let a = c.args in
-    turn_refused a.block.now a.answer a.d a.kind a.argument c.named-g.ensures c.fits-misfit.ensures c.if-misfit-ne0.true
+    let all = turn_refused a.block.now a.answer a.d a.kind a.argument c.named-g.ensures c.fits-misfit.ensures c.if-misfit-ne0.true in
+    record { block_after = all.0; block_after_2 = all.1 }
 
 pub returns-then-d-ge16 : goal.returns-then-d-ge16
 returns-then-d-ge16 c =
     let a = c.args in
-    turn_domain a.block.now a.answer a.d a.kind a.argument c.named-g.ensures c.fits-misfit.ensures c.if-misfit-ne0.false
-    (λ i. (c.slice_known-1.given i).fits) c.if-d-ge16.true
+    let all = turn_domain a.block.now a.answer a.d a.kind a.argument c.named-g.ensures c.fits-misfit.ensures c.if-misfit-ne0.false
+    (λ i. (c.slice_known-1.given i).fits) c.if-d-ge16.true in
+    record { block_after = all.0; block_after_2 = all.1 }
 
 pub line-requires : goal.line-requires
 line-requires c =
-    let a = c.args in (
-      turn_blocked a.block.now a.answer a.d a.kind a.argument c.named-g.ensures c.fits-misfit.ensures
+    let a = c.args in
+    record {
+    blocked = turn_blocked a.block.now a.answer a.d a.kind a.argument c.named-g.ensures c.fits-misfit.ensures
           c.if-misfit-ne0.false
-          (λ i. (c.slice_known-1.given i).fits),
-      c.if-d-ge16.false,
-    )
+          (λ i. (c.slice_known-1.given i).fits);
+    d_bound = c.if-d-ge16.false;
+}
 
 pub policy-requires : goal.policy-requires
 policy-requires c =
-    let a = c.args in (
-      turn_blocked a.block.now a.answer a.d a.kind a.argument c.named-g.ensures c.fits-misfit.ensures
+    let a = c.args in
+    record {
+    blocked = turn_blocked a.block.now a.answer a.d a.kind a.argument c.named-g.ensures c.fits-misfit.ensures
           c.if-misfit-ne0.false
-          (λ i. (c.slice_known-1.given i).fits),
-      c.if-d-ge16.false,
-    )
+          (λ i. (c.slice_known-1.given i).fits);
+    d_bound = c.if-d-ge16.false;
+}
 
 pub returns-in-Line : goal.returns-in-Line
 returns-in-Line c =
     let worked = c.line in
     let a = c.args in
-    turn_line a.block.now a.answer a.d a.kind a.argument c.named-g.ensures c.fits-misfit.ensures c.if-misfit-ne0.false
+    let all = turn_line a.block.now a.answer a.d a.kind a.argument c.named-g.ensures c.fits-misfit.ensures c.if-misfit-ne0.false
     (λ i. (c.slice_known-1.given i).fits) c.if-d-ge16.false c.kind_of-asked.result c.kind_of-asked.ensures
-    worked.new.0 worked.auto.0 (λ i. (c.slice_known-in-Line-1.given i).fits) _ c.asked-1.given.1 worked.ensures
+    worked.new.0 worked.auto.0 (λ i. (c.slice_known-in-Line-1.given i).fits) _ c.asked-1.given.1 worked.ensures in
+    record { block_after = all.0; block_after_2 = all.1 }
 
 pub returns-in-Policy : goal.returns-in-Policy
 returns-in-Policy c =
     let worked = c.policy in
     let a = c.args in
-    turn_policy a.block.now a.answer a.d a.kind a.argument c.named-g.ensures c.fits-misfit.ensures c.if-misfit-ne0.false
+    let all = turn_policy a.block.now a.answer a.d a.kind a.argument c.named-g.ensures c.fits-misfit.ensures c.if-misfit-ne0.false
     (λ i. (c.slice_known-1.given i).fits) c.if-d-ge16.false c.kind_of-asked.result c.kind_of-asked.ensures
-    worked.new.0 worked.auto.0 (λ i. (c.slice_known-in-Policy-1.given i).fits) c.in-Policy.keys2 worked.ensures
+    worked.new.0 worked.auto.0 (λ i. (c.slice_known-in-Policy-1.given i).fits) c.in-Policy.keys2 worked.ensures in
+    record { block_after = all.0; block_after_2 = all.1 }
 
 pub returns-in-Unknown : goal.returns-in-Unknown
 returns-in-Unknown c =
     let a = c.args in
-    turn_unknown a.block.now a.answer a.d a.kind a.argument c.named-g.ensures c.fits-misfit.ensures c.if-misfit-ne0.false
+    let all = turn_unknown a.block.now a.answer a.d a.kind a.argument c.named-g.ensures c.fits-misfit.ensures c.if-misfit-ne0.false
     (λ i. (c.slice_known-1.given i).fits) c.if-d-ge16.false c.kind_of-asked.result c.kind_of-asked.ensures
-    c.in-Unknown.keys3
+    c.in-Unknown.keys3 in
+    record { block_after = all.0; block_after_2 = all.1 }

@@ -6,9 +6,10 @@ use Rattle.steps.specs.Tables.{Tables}
 use Rattle.steps.specs.Step.{tables_of}
 use Rattle.steps.proofs.SweepLaws.{begin, turned, end}
 use Rattle.cache.proofs.sets.sweep_sets.Goals as goal
+use Rattle.cache.proofs.sets.sweep_sets.Goals.{Start}
 
 -- the tables as they were lent
-abbrev lent : goal.Start invariant-loop decreases-loop → Tables
+abbrev lent : Start invariant-loop decreases-loop → Tables
 lent c = tables_of c.args.tags.now c.args.valid.now c.args.dirty.now c.args.words.now
 
 pub loop-set-init : goal.loop-set-init
@@ -16,11 +17,15 @@ loop-set-init c =
     begin c.args.g c.args.sweep (lent c) c.requires
 
 pub sweep_set-answer-requires : goal.sweep_set-answer-requires
-sweep_set-answer-requires c = (c.loop-set.invariant.shaped, c.loop-set-test.true)
+sweep_set-answer-requires c =
+    record {
+    shaped = c.loop-set.invariant.shaped;
+    set_lt_sets = c.loop-set-test.true;
+}
 
 pub overflow_add-set : goal.overflow_add-set
 overflow_add-set c =
-    omega (arith, c.loop-set-test.true, c.requires.limited.most-sets)
+    omega (arith, c.loop-set-test.true, c.requires.limited.most_sets)
 
 pub loop-set-smaller : goal.loop-set-smaller
 loop-set-smaller c =
@@ -34,13 +39,13 @@ loop-set-preserved c =
     c.loop-set-test.true {u = tables_of last.0 last.1.0 last.1.1.0 last.1.1.1.0} c.sweep_set-answer.ensures c.added-drops.ensures
 
 pub shape_of-tags : goal.shape_of-tags
-shape_of-tags c = c.loop-set.invariant.shaped.tags-long ∙ sym c.requires.tags-long
+shape_of-tags c = c.loop-set.invariant.shaped.tags_long ∙ sym c.requires.tags_long
 
 pub shape_of-valid : goal.shape_of-valid
-shape_of-valid c = c.loop-set.invariant.shaped.valid-long ∙ sym c.requires.valid-long
+shape_of-valid c = c.loop-set.invariant.shaped.valid_long ∙ sym c.requires.valid_long
 
 pub shape_of-dirty : goal.shape_of-dirty
-shape_of-dirty c = c.loop-set.invariant.shaped.dirty-long ∙ sym c.requires.dirty-long
+shape_of-dirty c = c.loop-set.invariant.shaped.dirty_long ∙ sym c.requires.dirty_long
 
 pub shape_of-words : goal.shape_of-words
 shape_of-words c = c.loop-set.invariant.shaped.words_long ∙ sym c.requires.words_long

@@ -6,9 +6,10 @@ use Rattle.steps.proofs.DeedLaws.{line_down, line_room, line_done}
 use Rattle.cache.specs.Inside.{deed_of}
 use Rattle.cache.specs.declared.account.Used.{Used}
 use Rattle.cache.proofs.work.line.Goals as goal
+use Rattle.cache.proofs.work.line.Goals.{Start}
 
 -- the tables as they were lent
-abbrev lent : goal.Start → Tables
+abbrev lent : Start → Tables
 lent c = tables_of c.args.tags.now c.args.valid.now c.args.dirty.now c.args.words.now
 
 pub returns-then-number-ne0 : goal.returns-then-number-ne0

@@ -29,7 +29,10 @@ overflow_shr-top c = omega (arith, c.requires.least)
 pub returns-then-top-shift : goal.returns-then-top-shift
 returns-then-top-shift c =
     let l = c.loop-k in
-    (pass_high l.k l.invariant c.loop-k-test.false c.if-top-shift.true, pass_put l.k l.invariant c.loop-k-test.false)
+    record {
+    formed_value = pass_high l.k l.invariant c.loop-k-test.false c.if-top-shift.true;
+    out_value = pass_put l.k l.invariant c.loop-k-test.false;
+}
 
 pub returns : goal.returns
 returns c =

@@ -26,8 +26,8 @@ step-requires c =
     let said = c.replied-said in
     record {
     word_len_bound = part_short said.result.0 said.ensures.short;
-    values_len_bound = (part_short (numbers_of said.result) said.ensures.few, c.requires);
-    at_in_bounds = ;
+    values_len_bound = part_short (numbers_of said.result) said.ensures.few;
+    at_in_bounds = c.requires;
 }
 
 pub shape_of-out : goal.shape_of-out

@@ -6,17 +6,19 @@ use Rattle.trace.proofs.lines.part.Goals as goal
 
 pub returns-then-read-eq0 : goal.returns-then-read-eq0
 returns-then-read-eq0 c =
-    let given = c.args in (
-      part_none given.ways given.number given.own (written_of given.at given.out.now)
-          c.as_read-read.ensures c.if-read-eq0.true,
-      omega arith,
-    )
+    let given = c.args in
+    record {
+    out_after = part_none given.ways given.number given.own (written_of given.at given.out.now)
+          c.as_read-read.ensures c.if-read-eq0.true;
+    upper_bound = omega arith;
+}
 
 pub returns : goal.returns
 returns c =
     let given = c.args in
-    let named = c.domain in (
-      part_some given.ways given.number given.own (written_of given.at given.out.now)
-          c.as_read-read.ensures c.if-read-eq0.false named.ensures.0,
-      named.ensures.1,
-    )
+    let named = c.domain in
+    record {
+    out_after = part_some given.ways given.number given.own (written_of given.at given.out.now)
+          c.as_read-read.ensures c.if-read-eq0.false named.ensures.0;
+    upper_bound = named.ensures.1;
+}

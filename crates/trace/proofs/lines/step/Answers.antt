@@ -10,8 +10,9 @@ pub returns : goal.returns
 returns c =
     let given = c.args in
     let number = c.number-next in
-    let told = c.told in (
-      step_is given.place given.word.now (map decimal given.values.now) (written_of given.at given.out.now)
-          number.ensures.0 told.ensures.0,
-      omega (arith, told.ensures.1, number.ensures.1, c.requires),
-    )
+    let told = c.told in
+    record {
+    out_after = step_is given.place given.word.now (map decimal given.values.now) (written_of given.at given.out.now)
+          number.ensures.0 told.ensures.0;
+    upper_bound = omega (arith, told.ensures.1, number.ensures.1, c.requires);
+}

@@ -13,7 +13,10 @@ bounds-out-at-then-n-lt10 c =
 pub returns-then-n-lt10 : goal.returns-then-n-lt10
 returns-then-n-lt10 c =
     let given = c.args in
-    (digit_put given.at given.n given.end given.out.now c.if-n-lt10.true, omega arith)
+    record {
+    out_after = digit_put given.at given.n given.end given.out.now c.if-n-lt10.true;
+    upper_bound = omega arith;
+}
 
 pub put-next-requires : goal.put-next-requires
 put-next-requires c =
@@ -40,8 +43,9 @@ pub returns : goal.returns
 returns c =
     let spelled = c.decimal-count in
     let few = few_digits c.args.n spelled.result c.ranges.n spelled.ensures.1.0 in
-    let put = c.put-next in (
-      number_is (written_of c.args.at c.args.out.now) c.args.end few spelled.ensures.1.0
-          spelled.ensures.1.1 put.ensures.0,
-      number_short c.args.at few spelled.ensures.0.1 c.requires put.ensures.1,
-    )
+    let put = c.put-next in
+    record {
+    out_after = number_is (written_of c.args.at c.args.out.now) c.args.end few spelled.ensures.1.0
+          spelled.ensures.1.1 put.ensures.0;
+    upper_bound = number_short c.args.at few spelled.ensures.0.1 c.requires put.ensures.1;
+}

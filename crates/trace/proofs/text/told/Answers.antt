@@ -39,8 +39,9 @@ returns c =
     let put = c.put-next in
     let word = length c.args.word.now in
     let count = length c.args.values.now in
-    let numbers = c.numbers in (
-      told_is c.args.word.now c.args.values.now (written_of c.args.at c.args.out.now)
-          put.ensures.0 c.end_of.ensures numbers.ensures.0,
-      told_short c.args.at word count put.ensures.1 put.auto.1.0 c.requires numbers.ensures.1,
-    )
+    let numbers = c.numbers in
+    record {
+    out_after = told_is c.args.word.now c.args.values.now (written_of c.args.at c.args.out.now)
+          put.ensures.0 c.end_of.ensures numbers.ensures.0;
+    upper_bound = told_short c.args.at word count put.ensures.1 put.auto.1.0 c.requires numbers.ensures.1;
+}

@@ -7,16 +7,18 @@ pub loop-count-init : goal.loop-count-init
 loop-count-init c = begin c.args.ways c.args.map c.requires.sized c.requires.map_bound
 
 pub raised-free-requires : goal.raised-free-requires
-raised-free-requires c = (
-  rw (c.evens-low.ensures, c.evens-high.ensures) (both_lt c.loop-count.held),
-  omega arith,
-)
+raised-free-requires c =
+    record {
+    x_bound = rw (c.evens-low.ensures, c.evens-high.ensures) (both_lt c.loop-count.held);
+    at_bound = omega arith;
+}
 
 pub raised-right-requires : goal.raised-right-requires
-raised-right-requires c = (
-  rw (c.evens-low.ensures, c.evens-high.ensures) (right_only_lt c.loop-count.held),
-  omega arith,
-)
+raised-right-requires c =
+    record {
+    x_bound = rw (c.evens-low.ensures, c.evens-high.ensures) (right_only_lt c.loop-count.held);
+    at_bound = omega arith;
+}
 
 pub loop-count-preserved : goal.loop-count-preserved
 loop-count-preserved c =
@@ -27,4 +29,4 @@ loop-count-preserved c =
 pub returns : goal.returns
 returns c =
     let e = end c.loop-count.invariant c.loop-count-test.false in
-    record { free-is = e.0; right_is = e.1 }
+    record { free_is = e.0; right_is = e.1 }
