@@ -146,7 +146,7 @@ def results(path: pathlib.Path) -> None:
                 body = TOKEN.sub(lambda t: name if t[0] == "result" else t[0], m[4])
                 lines[i] = f"{m[1]}ensures{m[2] or ''} {{ " + re.sub(rf"(?<![\w.]){m[3]}(?!\w)", "result", body) + " }"
             elif not line.lstrip().startswith("--"):
-                lines[i] = re.sub(r"(?<![\w.'-])result(?![\w'-])(?! :)(?! =)", name, line) if path.suffix == ".antt" else line
+                lines[i] = re.sub(r"(?<![\w.'-])result(?![\w'-])(?! =)", name, line) if path.suffix == ".antt" else line
                 if USE.match(line) and f"{crate}.specs.Calls" in line:
                     lines[i] = re.sub(r"\bresult\b", name, line)
         text = "\n".join(lines)

@@ -1,5 +1,5 @@
 -- Orders as lists of ways: how often a way stands in one, and how many ways that makes.
-use mathlib.Core.Path.{◌≡◌, refl, sym, ap, ap₂, ◌∙◌}
+use mathlib.Core.Path.{subst, ◌≡◌, refl, sym, ap, ap₂, ◌∙◌}
 use mathlib.Core.Bool.{cond}
 use mathlib.Core.List.{[], ◌∷◌, ◌++◌}
 use Prim.Native.Nat.{ℕ, zero, suc, ◌+◌, ◌≤◌, ◌<◌}
@@ -32,7 +32,7 @@ unfolding times kept
 times_kept p w [] = cases (p w) (λ t. rw t) (λ t. rw t)
 times_kept p w (v ∷ o) =
     cases (eqb v w)
-    (λ t. rw (sym (eqb-true v w t))
+    (λ t. subst (λ x. times x (kept p (v ∷ o)) ≡ cond (p x) (times x (v ∷ o)) 0) (eqb-true v w t)
     (cases (p v) (λ u. rw (u, times_kept p v o, u)) (λ u. rw (u, times_kept p v o, u))))
     (λ t. cases (p v)
     (λ u. rw (u, t, times_kept p w o) (cases (p w) (λ r. rw r) (λ r. rw r)))

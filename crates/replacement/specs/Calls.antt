@@ -21,7 +21,7 @@ pub record Result : Type 0 where
   pub answer : List ℕ
   pub word : ℕ
 
-abbrev pub result : Outcome → Result
+abbrev pub outcome_of : Outcome → Result
 outcome_of r = record { answer = answer_of r.reply; word = r.word }
 
 -- "Rule: 0 Tree-PLRU, 1 NRU", and "1 now admits rule 2".

@@ -28,7 +28,7 @@ abbrev pub told : Effect → Told
 told e = record { answer = answer_of e.answer; row = e.row }
 
 -- What a call gives, as an effect on the row.
-abbrev pub result : Done → List ℕ → Effect
+abbrev pub effect_of : Done → List ℕ → Effect
 effect_of d tags = record { answer = d.answer; row = row_of tags d.lines }
 
 abbrev pub refused : ℕ → Row → Effect

@@ -6,25 +6,27 @@ use Rattle.waymap.proofs.NumberLaws.{takes_sized}
 use Rattle.lru_rule.specs.Calls.{own_of}
 use Rattle.lru_rule.proofs.CallLaws.{own_given}
 use Rattle.lru_rule.proofs.own.Goals as goal
-use Rattle.lru_rule.proofs.own.Goals.{Start, Then-takes}
+use Rattle.lru_rule.proofs.own.Goals.{Then-takes}
 
 pub returns-else-takes : goal.returns-else-takes
 unfolding own_of
 returns-else-takes c = rw (sym c.takes.ensures ∙ c.if-takes.false)
 
 -- Behind its test the call is within the limits.
-module _ (c : Then-takes) where
-  abbrev entry : Start
-  entry = c.before.before
-
-  taken : takes entry.args.ways entry.args.map ≡ true
-  taken = sym c.takes.ensures ∙ c.if-takes.true
+taken : (c : Then-takes) → takes c.args.ways c.args.map ≡ true
+taken c = sym c.takes.ensures ∙ c.if-takes.true
 
 pub read-requires : goal.read-requires
-read-requires c = takes_sized _ _ (taken c)
+read-requires c =
+    let past = (goal.at.read-requires c).Then-takes in
+    takes_sized _ _ (taken past)
 
 pub pass-found-requires : goal.pass-found-requires
-pass-found-requires c = takes_sized _ _ (taken c.before)
+pass-found-requires c =
+    let past = (goal.at.pass-found-requires c).Then-takes in
+    takes_sized _ _ (taken past)
 
 pub returns : goal.returns
-returns c = own_given _ _ _ (taken c.before.before) c.read.ensures c.pass-found.ensures.out_value
+returns c =
+    let past = (goal.at.returns c).Then-takes in
+    own_given _ _ _ (taken past) c.read.ensures c.pass-found.ensures.out_value

@@ -9,40 +9,44 @@ use Rattle.lru_rule.specs.Calls.{reset_of}
 use Rattle.lru_rule.proofs.PlaceLaws.{formed_word, malformed_word}
 use Rattle.lru_rule.proofs.CallLaws.{reset_given}
 use Rattle.lru_rule.proofs.reset.Goals as goal
-use Rattle.lru_rule.proofs.reset.Goals.{Start, Then-takes}
+use Rattle.lru_rule.proofs.reset.Goals.{Then-takes}
 
 pub returns-else-takes : goal.returns-else-takes
 unfolding reset_of
 returns-else-takes c = rw (sym c.takes.ensures ∙ c.if-takes.false)
 
 -- Behind its test the call is within the limits.
-module _ (c : Then-takes) where
-  abbrev entry : Start
-  entry = c.before.before
-
-  taken : takes entry.args.ways entry.args.moves.ways ≡ true
-  taken = sym c.takes.ensures ∙ c.if-takes.true
+taken : (c : Then-takes) → takes c.args.ways c.args.moves.ways ≡ true
+taken c = sym c.takes.ensures ∙ c.if-takes.true
 
 pub pass-found-requires : goal.pass-found-requires
-pass-found-requires c = takes_sized _ _ (taken c)
+pass-found-requires c =
+    let past = (goal.at.pass-found-requires c).Then-takes in
+    takes_sized _ _ (taken past)
 
 -- the word is the order that it is read as
 pub returns-then-found : goal.returns-then-found
 returns-then-found c =
+    let past = (goal.at.returns-then-found c).Then-takes in
     let found = c.pass-found in
-    reset_given _ _ _ (taken c) _ (omega (arith, (entry c).well_formed))
-    (formed_word _ _ (not-true _ (sym found.ensures.0 ∙ c.if-found.true))) found.ensures.1 c.written.ensures
+    reset_given _ _ _ (taken past) _ (omega (arith, c.well_formed))
+    (formed_word _ _ (not-true _ (sym found.ensures.formed_value ∙ c.if-found.true))) found.ensures.out_value c.written.ensures
 
 pub fresh-order-requires : goal.fresh-order-requires
-fresh-order-requires c = takes_sized _ _ (taken c.before.before)
+fresh-order-requires c =
+    let past = (goal.at.fresh-order-requires c).Then-takes in
+    takes_sized _ _ (taken past)
 
 pub pass-again-requires : goal.pass-again-requires
-pass-again-requires c = takes_sized _ _ (taken c.before.before.before)
+pass-again-requires c =
+    let past = (goal.at.pass-again-requires c).Then-takes in
+    takes_sized _ _ (taken past)
 
 -- it is read as fresh
 pub returns : goal.returns
 returns c =
+    let past = (goal.at.returns c).Then-takes in
     let found = c.pass-found in
-    reset_given _ _ _ (taken c) _ (omega (arith, (entry c).well_formed))
-    (c.fresh-order.ensures ∙ malformed_word _ _ (not-false _ (sym found.ensures.0 ∙ c.if-found.false)))
+    reset_given _ _ _ (taken past) _ (omega (arith, c.well_formed))
+    (c.fresh-order.ensures ∙ malformed_word _ _ (not-false _ (sym found.ensures.formed_value ∙ c.if-found.false)))
     c.pass-again.ensures.out_value c.written-2.ensures

@@ -9,7 +9,7 @@ use Rattle.replacement.proofs.CallLaws.{two, either_reach}
 use borrow.Author.Tests.{eq-eqb, ne_eqb}
 use Rattle.tree.proofs.change.Reads as change-reads'
 use Rattle.replacement.proofs.change_of.Goals as goal
-use Rattle.replacement.proofs.change_of.Goals.{Start, Then-fits}
+use Rattle.replacement.proofs.change_of.Goals.{Then-fits}
 
 pub returns-else-in_limits : goal.returns-else-in_limits
 unfolding change_of
@@ -26,39 +26,39 @@ returns-else-fits c =
     )
 
 -- Behind its two tests the maps are within the limits.
-module _ (c : Then-fits) where
-  abbrev entry : Start
-  entry = c.before.before.before.before
+limits : (c : Then-fits) → in_limits c.args.ways c.args.rule ≡ true
+limits c = sym c.in_limits.ensures ∙ c.if-in_limits.true
 
-  limits : in_limits entry.args.ways entry.args.rule ≡ true
-  limits = sym c.in_limits.ensures ∙ c.if-in_limits.true
-
-  reach : (not (reaches entry.args.ways entry.args.old) && not (reaches entry.args.ways entry.args.new)) ≡ true
-  reach = either_reach entry.args.ways entry.args.old entry.args.new ∙ sym c.fits.ensures ∙ c.if-fits.true
+reach : (c : Then-fits) → (not (reaches c.args.ways c.args.old) && not (reaches c.args.ways c.args.new)) ≡ true
+reach c = either_reach c.args.ways c.args.old c.args.new ∙ sym c.fits.ensures ∙ c.if-fits.true
 
 pub returns-then-rule-eq0 : goal.returns-then-rule-eq0
 unfolding change_of
 returns-then-rule-eq0 c =
-    rw (limits c, reach c, c.if-rule-eq0.true) (ap Clear c.change.ensures)
+    let past = (goal.at.returns-then-rule-eq0 c).Then-fits in
+    rw (limits past, reach past, c.if-rule-eq0.true) (ap Clear c.change.ensures)
 
 pub returns-then-rule-eq1 : goal.returns-then-rule-eq1
 unfolding change_of
 returns-then-rule-eq1 c =
-    rw (limits c, reach c, c.if-rule-eq1.true) (ap Raise c.change-then-rule-eq1.ensures)
+    let past = (goal.at.returns-then-rule-eq1 c).Then-fits in
+    rw (limits past, reach past, c.if-rule-eq1.true) (ap Raise c.change-then-rule-eq1.ensures)
 
 pub returns-then-old-new : goal.returns-then-old-new
 unfolding change_of
 returns-then-old-new c =
-    let a = (entry c).args in
-    rw (limits c, reach c, two _ _ (limits c) c.if-rule-eq0.false c.if-rule-eq1.false, eq-eqb a.old a.new c.if-old-new.true)
+    let past = (goal.at.returns-then-old-new c).Then-fits in
+    let a = c.args in
+    rw (limits past, reach past, two _ _ (limits past) c.if-rule-eq0.false c.if-rule-eq1.false, eq-eqb a.old a.new c.if-old-new.true)
 
 pub returns : goal.returns
 unfolding change_of
 returns c =
-    let a = (entry c).args in
+    let past = (goal.at.returns c).Then-fits in
+    let a = c.args in
     rw (
-      limits c,
-      reach c,
-      two _ _ (limits c) c.if-rule-eq0.false c.if-rule-eq1.false,
+      limits past,
+      reach past,
+      two _ _ (limits past) c.if-rule-eq0.false c.if-rule-eq1.false,
       ne_eqb a.old a.new c.if-old-new.false,
     ) (ap (Age a.ways) c.change-2.ensures)

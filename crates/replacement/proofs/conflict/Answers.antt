@@ -7,7 +7,7 @@ use Rattle.waymap.specs.Bits.{reaches}
 use Rattle.replacement.specs.Calls.{in_limits, shares_of}
 use Rattle.replacement.proofs.CallLaws.{either_reach, no_nodes, shares_given, shares_by_tree}
 use Rattle.replacement.proofs.conflict.Goals as goal
-use Rattle.replacement.proofs.conflict.Goals.{Start, Then-fits}
+use Rattle.replacement.proofs.conflict.Goals.{Then-fits}
 
 pub returns-else-in_limits : goal.returns-else-in_limits
 unfolding shares_of
@@ -24,24 +24,23 @@ returns-else-fits c =
     )
 
 -- Behind its two tests no call is refused.
-module _ (c : Then-fits) where
-  abbrev entry : Start
-  entry = c.before.before.before.before
+limits : (c : Then-fits) → in_limits c.args.ways c.args.rule ≡ true
+limits c = sym c.in_limits.ensures ∙ c.if-in_limits.true
 
-  limits : in_limits entry.args.ways entry.args.rule ≡ true
-  limits = sym c.in_limits.ensures ∙ c.if-in_limits.true
-
-  reach : reaches entry.args.ways (bit_or entry.args.map entry.args.other) ≡ false
-  reach = not-true _ (sym c.fits.ensures ∙ c.if-fits.true)
+reach : (c : Then-fits) → reaches c.args.ways (bit_or c.args.map c.args.other) ≡ false
+reach c = not-true _ (sym c.fits.ensures ∙ c.if-fits.true)
 
 pub returns-then-rule-ne0 : goal.returns-then-rule-ne0
 returns-then-rule-ne0 c =
-    shares_given _ _ _ _ (limits c) (reach c) (no_nodes _ _ _ _ c.if-rule-ne0.true)
+    let past = (goal.at.returns-then-rule-ne0 c).Then-fits in
+    shares_given _ _ _ _ (limits past) (reach past) (no_nodes _ _ _ _ c.if-rule-ne0.true)
 
 pub returns-then-shares : goal.returns-then-shares
 returns-then-shares c =
-    shares_by_tree _ _ _ _ (limits c) (reach c) c.if-rule-ne0.false c.shares.ensures c.if-shares.true
+    let past = (goal.at.returns-then-shares c).Then-fits in
+    shares_by_tree _ _ _ _ (limits past) (reach past) c.if-rule-ne0.false c.shares.ensures c.if-shares.true
 
 pub returns : goal.returns
 returns c =
-    shares_by_tree _ _ _ _ (limits c) (reach c) c.if-rule-ne0.false c.shares.ensures c.if-shares.false
+    let past = (goal.at.returns c).Then-fits in
+    shares_by_tree _ _ _ _ (limits past) (reach past) c.if-rule-ne0.false c.shares.ensures c.if-shares.false

@@ -9,7 +9,7 @@ use Rattle.replacement.specs.Calls.{in_limits, touch_of}
 use Rattle.replacement.proofs.CallLaws.{ways, is_tree, is_nru, is_lru, tree_touch, lru_touch, touch_given}
 use Rattle.tree.proofs.touch.Reads as touch-reads'
 use Rattle.replacement.proofs.touch.Goals as goal
-use Rattle.replacement.proofs.touch.Goals.{Else-ways-way, Start}
+use Rattle.replacement.proofs.touch.Goals.{Else-ways-way}
 
 pub returns-else-in_limits : goal.returns-else-in_limits
 unfolding touch_of
@@ -31,30 +31,29 @@ returns-then-ways-way c =
     )
 
 -- Behind its three tests no call is refused.
-module _ (c : Else-ways-way) where
-  abbrev entry : Start
-  entry = c.before.before.before.before.before
+limits : (c : Else-ways-way) → in_limits c.args.ways c.args.rule ≡ true
+limits c = sym c.in_limits.ensures ∙ c.if-in_limits.true
 
-  limits : in_limits entry.args.ways entry.args.rule ≡ true
-  limits = sym c.in_limits.ensures ∙ c.if-in_limits.true
+reach : (c : Else-ways-way) → reaches c.args.ways c.args.map ≡ false
+reach c = not-true _ (sym c.fits.ensures ∙ c.if-fits.true)
 
-  reach : reaches entry.args.ways entry.args.map ≡ false
-  reach = not-true _ (sym c.fits.ensures ∙ c.if-fits.true)
-
-  sized : is_ways entry.args.ways ≡ true
-  sized = ways entry.args.ways entry.args.rule limits
+sized : (c : Else-ways-way) → is_ways c.args.ways ≡ true
+sized c = ways c.args.ways c.args.rule (limits c)
 
 pub returns-then-rule-eq0 : goal.returns-then-rule-eq0
 returns-then-rule-eq0 c =
-    touch_given _ _ (limits c) (is_tree _ _ c.if-rule-eq0.true) _ _ _ (reach c) c.if-ways-way.false
-    (c.touch.ensures ∙ tree_touch _ (sized c) _ _ _ (reach c))
+    let past = (goal.at.returns-then-rule-eq0 c).Else-ways-way in
+    touch_given _ _ (limits past) (is_tree _ _ c.if-rule-eq0.true) _ _ _ (reach past) c.if-ways-way.false
+    (c.touch.ensures ∙ tree_touch _ (sized past) _ _ _ (reach past))
 
 pub returns-then-rule-eq1 : goal.returns-then-rule-eq1
 unfolding Nru.touch_of
 returns-then-rule-eq1 c =
-    touch_given _ _ (limits c) (is_nru _ _ c.if-rule-eq1.true) _ _ _ (reach c) c.if-ways-way.false c.touch-then-rule-eq1.ensures
+    let past = (goal.at.returns-then-rule-eq1 c).Else-ways-way in
+    touch_given _ _ (limits past) (is_nru _ _ c.if-rule-eq1.true) _ _ _ (reach past) c.if-ways-way.false c.touch-then-rule-eq1.ensures
 
 pub returns : goal.returns
 returns c =
-    touch_given _ _ (limits c) (is_lru _ _ (limits c) c.if-rule-eq0.false c.if-rule-eq1.false) _ _ _ (reach c) c.if-ways-way.false
-    (c.touch-2.ensures ∙ lru_touch _ (sized c) _ _ _ (reach c))
+    let past = (goal.at.returns c).Else-ways-way in
+    touch_given _ _ (limits past) (is_lru _ _ (limits past) c.if-rule-eq0.false c.if-rule-eq1.false) _ _ _ (reach past) c.if-ways-way.false
+    (c.touch-2.ensures ∙ lru_touch _ (sized past) _ _ _ (reach past))

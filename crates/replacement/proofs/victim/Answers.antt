@@ -8,7 +8,7 @@ use Rattle.replacement.specs.Calls.{in_limits, victim_of}
 use Rattle.replacement.proofs.CallLaws.{some_way, victim_by_tree, victim_by_nru, victim_by_lru}
 use Rattle.tree.proofs.victim.Reads as victim-reads'
 use Rattle.replacement.proofs.victim.Goals as goal
-use Rattle.replacement.proofs.victim.Goals.{Start, Then-fits}
+use Rattle.replacement.proofs.victim.Goals.{Then-fits}
 
 pub returns-else-in_limits : goal.returns-else-in_limits
 unfolding victim_of
@@ -27,27 +27,26 @@ returns-else-fits c = rw (
 )
 
 -- Behind its three tests no call is refused.
-module _ (c : Then-fits) where
-  abbrev entry : Start
-  entry = c.before.before.before.before.before
+limits : (c : Then-fits) → in_limits c.args.ways c.args.rule ≡ true
+limits c = sym c.in_limits.ensures ∙ c.if-in_limits.true
 
-  limits : in_limits entry.args.ways entry.args.rule ≡ true
-  limits = sym c.in_limits.ensures ∙ c.if-in_limits.true
+reach : (c : Then-fits) → reaches c.args.ways c.args.map ≡ false
+reach c = not-true _ (sym c.fits.ensures ∙ c.if-fits.true)
 
-  reach : reaches entry.args.ways entry.args.map ≡ false
-  reach = not-true _ (sym c.fits.ensures ∙ c.if-fits.true)
-
-  some : any 16 (bit entry.args.map) ≡ true
-  some = some_way entry.args.map entry.fits.map.fits c.if-map-eq0.false
+some : (c : Then-fits) → any 16 (bit c.args.map) ≡ true
+some c = some_way c.args.map c.ranges.map.fits c.if-map-eq0.false
 
 pub returns-then-rule-eq0 : goal.returns-then-rule-eq0
 returns-then-rule-eq0 c =
-    victim_by_tree _ _ _ _ (limits c) (reach c) (some c) c.if-rule-eq0.true c.victim.ensures
+    let past = (goal.at.returns-then-rule-eq0 c).Then-fits in
+    victim_by_tree _ _ _ _ (limits past) (reach past) (some past) c.if-rule-eq0.true c.victim.ensures
 
 pub returns-then-rule-eq1 : goal.returns-then-rule-eq1
 returns-then-rule-eq1 c =
-    victim_by_nru _ _ _ _ (limits c) (reach c) (some c) (entry c).ranges.map.fits c.if-rule-eq1.true c.victim-choice.ensures
+    let past = (goal.at.returns-then-rule-eq1 c).Then-fits in
+    victim_by_nru _ _ _ _ (limits past) (reach past) (some past) c.ranges.map.fits c.if-rule-eq1.true c.victim-choice.ensures
 
 pub returns : goal.returns
 returns c =
-    victim_by_lru _ _ _ _ (limits c) (reach c) (some c) c.if-rule-eq0.false c.if-rule-eq1.false c.victim-2.ensures
+    let past = (goal.at.returns c).Then-fits in
+    victim_by_lru _ _ _ _ (limits past) (reach past) (some past) c.if-rule-eq0.false c.if-rule-eq1.false c.victim-2.ensures

@@ -31,7 +31,7 @@ loop-set-smaller c =
 pub loop-set-preserved : goal.loop-set-preserved
 loop-set-preserved c =
     let row = c.put_row-next in
-    row_put c.loop-set.invariant c.loop-set-test.true row.ensures row.auto.1.1.1.1.1.1.0
+    row_put c.loop-set.invariant c.loop-set-test.true row.ensures row.auto.out
 
 pub shape_of-out : goal.shape_of-out
 shape_of-out c = c.loop-set.invariant.long

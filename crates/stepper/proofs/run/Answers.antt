@@ -43,22 +43,22 @@ show_held-held-requires c =
 pub shape_of-tags : goal.shape_of-tags
 shape_of-tags c =
     let made = c.fresh_tables in
-    c.loop-i.invariant.tags_same ∙ made.auto.1.0
+    c.loop-i.invariant.tags_same ∙ made.auto.tags
 
 pub shape_of-valid : goal.shape_of-valid
 shape_of-valid c =
     let made = c.fresh_tables in
-    c.loop-i.invariant.valid_same ∙ made.auto.1.1.0
+    c.loop-i.invariant.valid_same ∙ made.auto.valid
 
 pub shape_of-dirty : goal.shape_of-dirty
 shape_of-dirty c =
     let made = c.fresh_tables in
-    c.loop-i.invariant.dirty_same ∙ made.auto.1.1.1.0
+    c.loop-i.invariant.dirty_same ∙ made.auto.dirty
 
 pub shape_of-words : goal.shape_of-words
 shape_of-words c =
     let made = c.fresh_tables in
-    c.loop-i.invariant.words_same ∙ made.auto.1.1.1.1.0
+    c.loop-i.invariant.words_same ∙ made.auto.words
 
 pub shape_of-out : goal.shape_of-out
 shape_of-out c =

@@ -8,9 +8,9 @@ pub returns-then-number-ne0 : goal.returns-then-number-ne0
 returns-then-number-ne0 c =
     let given = c.args in
     let refused = c.refused in
-    let is = refused_is given.file.now given.out.now refused.new.1.0
+    let is = refused_is given.file.now given.out.now refused.new.out
     (tables_of given.tags.now given.valid.now given.dirty.now given.words.now)
-    c.refusal-number.ensures c.if-number-ne0.true (search rules) refused.ensures.0 refused.ensures.1 in
+    c.refusal-number.ensures c.if-number-ne0.true (search rules) refused.ensures.out_after refused.ensures.upper_bound in
     record {
     words_after = is;
     prefix_len = listed_counts _ _ _ is;

@@ -54,4 +54,4 @@ returns c =
     listed_is c.args.file.now (tables_of new.0 new.1.0 new.1.1.0 new.1.1.1.0)
     c.named-g.ensures c.steps-steps.ensures c.requires.file_value c.requires.roomy
     (λ j. record { tags = kept.0 j; valid = kept.1.0 j; dirty = kept.1.1.0 j; words = kept.1.1.1.0 j })
-    listed.ensures.0 listed.ensures.1
+    listed.ensures.out_after listed.ensures.upper_bound

@@ -56,7 +56,7 @@ loop-i-preserved c =
     run_turned step (result_of turned.result.stepped tables cores) looped.invariant c.loop-i-test.true c.command_at-command.ensures
     (placed_step _ step _ looped.invariant.cores_long _ turned.result tables refl turned.ensures)
     (λ j. record { tags = kept.1.0 j; valid = kept.1.1.0 j; dirty = kept.1.1.1.0 j; words = kept.1.1.1.1.0 j })
-    (length-set looped.cores (step.domain % max_cores) turned.result.core) answered.ensures.0 answered.ensures.1
+    (length-set looped.cores (step.domain % max_cores) turned.result.core) answered.ensures.out_after answered.ensures.upper_bound
 
 pub domains-requires : goal.domains-requires
 domains-requires c = run_rest c.loop-i.invariant
@@ -81,6 +81,6 @@ returns c =
     let named = c.domains in
     let looped = c.loop-i in
     record {
-    out_after = run_ended looped.invariant c.loop-i-test.false c.fresh_domains.ensures refl named.ensures.0;
-    upper_bound = run_short looped.invariant named.ensures.1;
+    out_after = run_ended looped.invariant c.loop-i-test.false c.fresh_domains.ensures refl named.ensures.out_after;
+    upper_bound = run_short looped.invariant named.ensures.upper_bound;
 }

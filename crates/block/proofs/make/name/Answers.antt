@@ -9,15 +9,15 @@ pub bounds-block-2 : goal.bounds-block-2
 unfolding sizes
 bounds-block-2 c =
     let put = c.put_u16 in
-    let room : 2 < length put.new.0 = omega (arith, put.auto.0, c.requires.long) in
+    let room : 2 < length put.new.bytes = omega (arith, put.auto.bytes, c.requires.long) in
     room
 
 pub bounds-block-3 : goal.bounds-block-3
 unfolding sizes
 bounds-block-3 c =
     let put = c.put_u16 in
-    let room : 3 < length put.new.0 = omega (arith, put.auto.0, c.requires.long) in
-    rw (length-set put.new.0 2 (c.args.g.ways % 256)) room
+    let room : 3 < length put.new.bytes = omega (arith, put.auto.bytes, c.requires.long) in
+    rw (length-set put.new.bytes 2 (c.args.g.ways % 256)) room
 
 pub returns : goal.returns
 unfolding digits sizes

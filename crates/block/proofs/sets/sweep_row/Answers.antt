@@ -9,12 +9,12 @@ pub returns : goal.returns
 returns c =
     let a = c.args in
     let done = c.swept-done in
-    let long = done.auto.0 ∙ c.read_u64s.auto.numbers in
+    let long = done.auto.tags ∙ c.read_u64s.auto.numbers in
     row_worked a.at (sweep_by a.sweep) a.block.now
-    {row = c.read_u64s.new.numbers} {new = done.new.0} {one = c.put_u64s.new.bytes}
+    {row = c.read_u64s.new.numbers} {new = done.new.tags} {one = c.put_u64s.new.bytes}
     (c.read_u64s.ensures ∙ run_read a.at.row 8 a.block.now a.row.now (omega (arith, c.requires)))
     c.lines_at-lines.ensures done.ensures
-    (c.put_u64s.ensures ∙ run_put a.at.row 8 a.block.now done.new.0 (omega (arith, c.requires, long))) c.put_lines.ensures
+    (c.put_u64s.ensures ∙ run_put a.at.row 8 a.block.now done.new.tags (omega (arith, c.requires, long))) c.put_lines.ensures
     (record {
       long = long;
       tags = λ i. (c.slice_known-4-1.given i).fits;

@@ -23,7 +23,7 @@ loop-set-smaller c = omega (arith, c.loop-set-test.true)
 pub loop-set-preserved : goal.loop-set-preserved
 loop-set-preserved c =
     let called = c.sweep_set-answer in
-    clean_turned c.loop-set.invariant c.requires c.loop-set-test.true called.auto.0 called.ensures
+    clean_turned c.loop-set.invariant c.requires c.loop-set-test.true called.auto.block called.ensures
     c.added-drops.ensures
 
 pub shape_of-block : goal.shape_of-block

@@ -9,5 +9,5 @@ returns c =
     let swept = c.swept-done in
     let a = c.args in
     row_done a.g.ways a.set span.result.start span.result.stop (sweep_by a.sweep)
-    a.tags.now a.valid.now a.dirty.now a.words.now swept.result swept.new.0
+    a.tags.now a.valid.now a.dirty.now a.words.now swept.result swept.new.tags
     span.ensures.start_is span.ensures.stop_is swept.ensures

@@ -39,6 +39,6 @@ returns c =
     let said = c.replied-said in
     let given = c.args in
     record {
-    out_after = said_line given.place (written_of given.at given.out.now) said.ensures stepped.ensures.0;
-    upper_bound = stepped.ensures.1;
+    out_after = said_line given.place (written_of given.at given.out.now) said.ensures stepped.ensures.out_after;
+    upper_bound = stepped.ensures.upper_bound;
 }

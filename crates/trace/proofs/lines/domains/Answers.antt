@@ -17,7 +17,7 @@ pub loop-d-preserved : goal.loop-d-preserved
 unfolding domain_of
 loop-d-preserved c =
     let part = c.part-next in
-    name_turned c.loop-d.invariant c.loop-d-test.true part.ensures.0 part.ensures.1
+    name_turned c.loop-d.invariant c.loop-d-test.true part.ensures.out_after part.ensures.upper_bound
 
 pub shape_of-out : goal.shape_of-out
 shape_of-out c = c.loop-d.invariant.long

@@ -19,6 +19,6 @@ returns c =
     let named = c.domain in
     record {
     out_after = part_some given.ways given.number given.own (written_of given.at given.out.now)
-          c.as_read-read.ensures c.if-read-eq0.false named.ensures.0;
-    upper_bound = named.ensures.1;
+          c.as_read-read.ensures c.if-read-eq0.false named.ensures.out_after;
+    upper_bound = named.ensures.upper_bound;
 }

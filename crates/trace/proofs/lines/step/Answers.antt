@@ -13,6 +13,6 @@ returns c =
     let told = c.told in
     record {
     out_after = step_is given.place given.word.now (map decimal given.values.now) (written_of given.at given.out.now)
-          number.ensures.0 told.ensures.0;
-    upper_bound = omega (arith, told.ensures.1, number.ensures.1, c.requires);
+          number.ensures.out_after told.ensures.out_after;
+    upper_bound = omega (arith, told.ensures.upper_bound, number.ensures.upper_bound, c.requires);
 }

@@ -21,31 +21,31 @@ returns-then-n-lt10 c =
 pub put-next-requires : goal.put-next-requires
 put-next-requires c =
     let spelled = c.decimal-count in
-    let few = few_digits c.args.n spelled.result c.ranges.n spelled.ensures.1.0 in
-    digits_fit c.args.at few spelled.ensures.0.1 c.requires
+    let few = few_digits c.args.n spelled.result c.ranges.n spelled.ensures.len in
+    digits_fit c.args.at few spelled.ensures.in_bounds.1 c.requires
 
 pub bounds-out-next : goal.bounds-out-next
 bounds-out-next c =
     let spelled = c.decimal-count in
-    let few = few_digits c.args.n spelled.result c.ranges.n spelled.ensures.1.0 in
+    let few = few_digits c.args.n spelled.result c.ranges.n spelled.ensures.len in
     let put = c.put-next in
-    end_inside c.args.at few spelled.ensures.0.1 c.requires put.ensures.1 put.auto.1.0
+    end_inside c.args.at few spelled.ensures.in_bounds.1 c.requires put.ensures.value put.auto.out
 
 pub overflow_add-result-2 : goal.overflow_add-result-2
 overflow_add-result-2 c =
     let spelled = c.decimal-count in
-    let few = few_digits c.args.n spelled.result c.ranges.n spelled.ensures.1.0 in
+    let few = few_digits c.args.n spelled.result c.ranges.n spelled.ensures.len in
     let put = c.put-next in
-    let inside = end_inside c.args.at few spelled.ensures.0.1 c.requires put.ensures.1 put.auto.1.0 in
+    let inside = end_inside c.args.at few spelled.ensures.in_bounds.1 c.requires put.ensures.value put.auto.out in
     omega (arith, inside)
 
 pub returns : goal.returns
 returns c =
     let spelled = c.decimal-count in
-    let few = few_digits c.args.n spelled.result c.ranges.n spelled.ensures.1.0 in
+    let few = few_digits c.args.n spelled.result c.ranges.n spelled.ensures.len in
     let put = c.put-next in
     record {
-    out_after = number_is (written_of c.args.at c.args.out.now) c.args.end few spelled.ensures.1.0
-          spelled.ensures.1.1 put.ensures.0;
-    upper_bound = number_short c.args.at few spelled.ensures.0.1 c.requires put.ensures.1;
+    out_after = number_is (written_of c.args.at c.args.out.now) c.args.end few spelled.ensures.len
+          spelled.ensures.1.1 put.ensures.out_after;
+    upper_bound = number_short c.args.at few spelled.ensures.in_bounds.1 c.requires put.ensures.value;
 }

@@ -19,8 +19,8 @@ number-next-requires c = line_room c.loop-i.invariant c.loop-i-test.true
 pub loop-i-preserved : goal.loop-i-preserved
 loop-i-preserved c =
     let number = c.number-next in
-    line_turned 0 c.loop-i.invariant c.loop-i-test.true c.end_of.ensures number.ensures.0 number.ensures.1
-    number.auto.1.1.0
+    line_turned 0 c.loop-i.invariant c.loop-i-test.true c.end_of.ensures number.ensures.out_after number.ensures.upper_bound
+    number.auto.out
 
 pub shape_of-out : goal.shape_of-out
 shape_of-out c = c.loop-i.invariant.long

@@ -11,14 +11,14 @@ bounds-out-next c =
     let put = c.put-next in
     let word = length c.args.word.now in
     let count = length c.args.values.now in
-    word_inside c.args.at word count put.ensures.1 put.auto.1.0 c.requires
+    word_inside c.args.at word count put.ensures.value put.auto.out c.requires
 
 pub overflow_add-next : goal.overflow_add-next
 overflow_add-next c =
     let put = c.put-next in
     let word = length c.args.word.now in
     let count = length c.args.values.now in
-    let inside = word_inside c.args.at word count put.ensures.1 put.auto.1.0 c.requires in
+    let inside = word_inside c.args.at word count put.ensures.value put.auto.out c.requires in
     omega (arith, inside)
 
 pub numbers-requires : goal.numbers-requires
@@ -26,13 +26,13 @@ numbers-requires c =
     let put = c.put-next in
     let word = length c.args.word.now in
     let count = length c.args.values.now in
-    numbers_room c.args.at word count put.ensures.1 put.auto.1.0 c.requires
-    (length-set put.new.1.0 put.result c.end_of.result)
+    numbers_room c.args.at word count put.ensures.value put.auto.out c.requires
+    (length-set put.new.out put.result c.end_of.result)
 
 pub shape_of-out : goal.shape_of-out
 shape_of-out c =
     let put = c.put-next in
-    c.numbers.auto.out ∙ length-set put.new.1.0 put.result c.end_of.result ∙ put.auto.1.0
+    c.numbers.auto.out ∙ length-set put.new.out put.result c.end_of.result ∙ put.auto.out
 
 pub returns : goal.returns
 returns c =
@@ -42,6 +42,6 @@ returns c =
     let numbers = c.numbers in
     record {
     out_after = told_is c.args.word.now c.args.values.now (written_of c.args.at c.args.out.now)
-          put.ensures.0 c.end_of.ensures numbers.ensures.0;
-    upper_bound = told_short c.args.at word count put.ensures.1 put.auto.1.0 c.requires numbers.ensures.1;
+          put.ensures.out_after c.end_of.ensures numbers.ensures.out_after;
+    upper_bound = told_short c.args.at word count put.ensures.value put.auto.out c.requires numbers.ensures.upper_bound;
 }
