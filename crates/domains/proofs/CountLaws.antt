@@ -1,7 +1,7 @@
 -- Counts: which are full, and what an answer adds.
 use mathlib.Core.Path.{◌≡◌, refl, sym, ◌∙◌}
 use mathlib.Core.Logic.{◌⊎◌, inl, inr}
-use mathlib.Core.Bool.{false, ◌||◌}
+use mathlib.Core.Bool.{Bool, false, ◌||◌}
 use mathlib.Core.List.{[], ◌∷◌}
 use Prim.Native.Nat.{ℕ, ◌+◌, ◌-◌, ◌≤◌, ◌<◌}
 use native.Mathlib.Omega.{arith}
@@ -68,31 +68,16 @@ pub drops_fit : (arg n : ℕ) (c : Counts) → overflows arg n c ≡ false → e
 unfolding overflows
 drops_fit arg n c e z = let past : ltb 4294967295 (c.dropped + n) ≡ false = rw z at e in ltb-false 4294967295 (c.dropped + n) past
 
--- ---- the answers that bind nothing, by their place among the answers
-
-pub is_pass : (a : Answer) → tag_of the_type a ≡ 3 → a ≡ Pass
-is_pass (Hit w) e = absurd (omega arith)
-is_pass (Fill w) e = absurd (omega arith)
-is_pass (Evict w tag dirty) e = absurd (omega arith)
-is_pass Pass e = refl
-is_pass (Flush w dirty) e = absurd (omega arith)
-is_pass Absent e = absurd (omega arith)
-is_pass (Policy n d) e = absurd (omega arith)
-is_pass (Refused n) e = absurd (omega arith)
-
-none_above : (n : ℕ) → n < 5 → (n ≡ 5) ⊎ ((n ≡ 6) ⊎ (n ≡ 7)) → ⊥
-none_above n h (inl e) = omega arith
-none_above n h (inr (inl e)) = omega arith
-none_above n h (inr (inr e)) = omega arith
-
 -- the answers that move no count
-pub rest_stays : (a : Answer) (c : Counts) → OneOf (5 ∷ 6 ∷ 7 ∷ []) (tag_of the_type a) → c ≡ counted a c
+pub rest_stays : (a : Answer) (c : Counts) → ((w : ℕ) → a ≡ Hit w → ⊥) → ((w : ℕ) → a ≡ Fill w → ⊥)
+    → ((w tag : ℕ) (dirty : Bool) → a ≡ Evict w tag dirty → ⊥) → (a ≡ Pass → ⊥) → ((w : ℕ) (dirty : Bool) → a ≡ Flush w dirty → ⊥)
+    → c ≡ counted a c
 unfolding counted
-rest_stays (Hit w) c h = absurd (none_above 0 (omega arith) h)
-rest_stays (Fill w) c h = absurd (none_above 1 (omega arith) h)
-rest_stays (Evict w tag dirty) c h = absurd (none_above 2 (omega arith) h)
-rest_stays Pass c h = absurd (none_above 3 (omega arith) h)
-rest_stays (Flush w dirty) c h = absurd (none_above 4 (omega arith) h)
-rest_stays Absent c h = refl
-rest_stays (Policy n d) c h = refl
-rest_stays (Refused n) c h = refl
+rest_stays (Hit w) c hit fill evict pass flush = absurd (hit w refl)
+rest_stays (Fill w) c hit fill evict pass flush = absurd (fill w refl)
+rest_stays (Evict w tag dirty) c hit fill evict pass flush = absurd (evict w tag dirty refl)
+rest_stays Pass c hit fill evict pass flush = absurd (pass refl)
+rest_stays (Flush w dirty) c hit fill evict pass flush = absurd (flush w dirty refl)
+rest_stays Absent c hit fill evict pass flush = refl
+rest_stays (Policy n d) c hit fill evict pass flush = refl
+rest_stays (Refused n) c hit fill evict pass flush = refl

@@ -10,7 +10,7 @@ use Rattle.steps.specs.Step.{drops_of, tables_of}
 use Rattle.steps.specs.Inside.{Shaped}
 use Rattle.steps.proofs.SetLaws.{shaped}
 use Rattle.steps.specs.Deed.{put_deed}
-use Rattle.steps.proofs.StepLaws.{step_refused, step_line, step_policy, step-unknown}
+use Rattle.steps.proofs.StepLaws.{step_refused, step_line, step_policy, step_unknown}
 use Rattle.cache.specs.Calls.{outcome}
 use Rattle.cache.specs.Inside.{deed_of}
 use Rattle.cache.specs.declared.Stepped.{Stepped}
@@ -65,7 +65,7 @@ returns-in-Line c =
     ap (λ (x : Stepped). outcome x left) c.put_back.ensures
     ∙ step_line c.args.g c.args.domain c.args.kind c.args.argument (lent (goal.at.returns-in-Line c).Start) c.args.t6 (is-shaped (goal.at.returns-in-Line c).Else-number-ne0)
     asked.result asked.ensures c.sizes-number.ensures c.if-number-ne0.false c.if-domain-ge16.false
-    _ {deed = deed_of c.line-used.result left} c.asked-1.given.1 c.line-used.ensures
+    _ {deed = deed_of c.line-used.result left} c.in-Line.is c.line-used.ensures
 
 pub returns-in-Policy : goal.returns-in-Policy
 unfolding domain_of put_deed
@@ -82,6 +82,6 @@ pub returns-in-Unknown : goal.returns-in-Unknown
 returns-in-Unknown c =
     let asked = c.kind_of-asked in
     ap (λ (x : Stepped). outcome x (lent (goal.at.returns-in-Unknown c).Start)) c.refused-in-Unknown.ensures
-    ∙ step-unknown c.args.g c.args.domain c.args.kind c.args.argument (lent (goal.at.returns-in-Unknown c).Start) c.args.t6
+    ∙ step_unknown c.args.g c.args.domain c.args.kind c.args.argument (lent (goal.at.returns-in-Unknown c).Start) c.args.t6
     asked.result asked.ensures c.sizes-number.ensures c.if-number-ne0.false c.if-domain-ge16.false
     c.in-Unknown.keys3

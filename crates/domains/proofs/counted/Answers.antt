@@ -1,7 +1,7 @@
 -- `domains::counted` meets its contract.
 use native.Mathlib.Omega.{arith}
 use Rattle.domains.specs.Domains.{counted}
-use Rattle.domains.proofs.CountLaws.{unspent, is_pass, rest_stays}
+use Rattle.domains.proofs.CountLaws.{unspent, rest_stays}
 use Rattle.domains.proofs.counted.Goals as goal
 
 pub overflow_add-next : goal.overflow_add-next
@@ -46,23 +46,25 @@ overflow_add-next-in-Flush c =
 
 pub returns-in-Hit : goal.returns-in-Hit
 unfolding counted
-returns-in-Hit c = rw c.answer-1.given.1
+returns-in-Hit c = rw c.in-Hit.is
 
 pub returns-in-Fill : goal.returns-in-Fill
 unfolding counted
-returns-in-Fill c = rw c.answer-in-Fill-1.given.1
+returns-in-Fill c = rw c.in-Fill.is
 
 pub returns-in-Pass : goal.returns-in-Pass
 unfolding counted
-returns-in-Pass c = rw (is_pass c.args.answer c.in-Pass.keys3)
+returns-in-Pass c = rw c.in-Pass.is
 
 pub returns-in-Evict : goal.returns-in-Evict
 unfolding counted
-returns-in-Evict c = rw (c.answer-in-Evict-1.given.1, c.with_dirty.ensures)
+returns-in-Evict c = rw (c.in-Evict.is, c.with_dirty.ensures)
 
 pub returns-in-Flush : goal.returns-in-Flush
 unfolding counted
-returns-in-Flush c = rw (c.answer-in-Flush-1.given.1, c.with_dirty-in-Flush.ensures)
+returns-in-Flush c = rw (c.in-Flush.is, c.with_dirty-in-Flush.ensures)
 
 pub returns-in_default : goal.returns-in_default
-returns-in_default c = rest_stays c.args.answer c.args.c c.in_default.keys6
+returns-in_default c =
+    let other = c.in_default in
+    rest_stays c.args.answer c.args.c other.not-Hit other.not-Fill other.not-Evict other.not-Pass other.not-Flush

@@ -13,8 +13,8 @@ returns-else-named-domain c = rw c.meaning-1.given.1 (stays_other c.args.domain 
 
 pub returns-in-Select : goal.returns-in-Select
 unfolding keeps_by
-returns-in-Select c = rw c.meaning-in-Select-1.given.1
+returns-in-Select c = rw c.in-Select.is
 
 pub returns-in-Refused : goal.returns-in-Refused
 unfolding keeps_by
-returns-in-Refused c = rw c.meaning-in-Refused-1.given.1
+returns-in-Refused c = rw c.in-Refused.is

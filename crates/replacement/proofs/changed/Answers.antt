@@ -3,10 +3,10 @@ use Rattle.tree.proofs.reset.Reads as reset-reads'
 use Rattle.replacement.proofs.changed.Goals as goal
 
 pub returns-in-Clear : goal.returns-in-Clear
-returns-in-Clear c = rw c.change-1.given.1 c.reset.ensures
+returns-in-Clear c = rw c.in-Clear.is c.reset.ensures
 
 pub returns-in-Raise : goal.returns-in-Raise
-returns-in-Raise c = rw c.change-in-Raise-1.given.1 c.reset-in-Raise.ensures
+returns-in-Raise c = rw c.in-Raise.is c.reset-in-Raise.ensures
 
 pub returns-in-Age : goal.returns-in-Age
-returns-in-Age c = rw c.change-in-Age-1.given.1 c.reset-in-Age.ensures
+returns-in-Age c = rw c.in-Age.is c.reset-in-Age.ensures

@@ -6,15 +6,15 @@ use Rattle.block.proofs.reply.fields_of.Goals as goal
 
 pub returns-in-Hit : goal.returns-in-Hit
 unfolding padded
-returns-in-Hit c = rw c.answer-1.given.1
+returns-in-Hit c = rw c.in-Hit.is
 
 pub returns-in-Fill : goal.returns-in-Fill
 unfolding padded
-returns-in-Fill c = rw c.answer-in-Fill-1.given.1
+returns-in-Fill c = rw c.in-Fill.is
 
 pub returns-in-Evict : goal.returns-in-Evict
 unfolding padded
-returns-in-Evict c = rw (c.answer-in-Evict-1.given.1, c.digit.ensures)
+returns-in-Evict c = rw (c.in-Evict.is, c.digit.ensures)
 
 pub returns-in-Pass : goal.returns-in-Pass
 unfolding padded
@@ -22,7 +22,7 @@ returns-in-Pass c = rw (bare c.args.answer 3 c.in-Pass.keys4 (inl refl))
 
 pub returns-in-Flush : goal.returns-in-Flush
 unfolding padded
-returns-in-Flush c = rw (c.answer-in-Flush-1.given.1, c.digit-in-Flush.ensures)
+returns-in-Flush c = rw (c.in-Flush.is, c.digit-in-Flush.ensures)
 
 pub returns-in-Absent : goal.returns-in-Absent
 unfolding padded
@@ -30,8 +30,8 @@ returns-in-Absent c = rw (bare c.args.answer 5 c.in-Absent.keys6 (inr refl))
 
 pub returns-in-Policy : goal.returns-in-Policy
 unfolding padded
-returns-in-Policy c = rw c.answer-in-Policy-1.given.1
+returns-in-Policy c = rw c.in-Policy.is
 
 pub returns-in-Refused : goal.returns-in-Refused
 unfolding padded
-returns-in-Refused c = rw c.answer-in-Refused-1.given.1
+returns-in-Refused c = rw c.in-Refused.is

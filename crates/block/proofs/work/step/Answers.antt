@@ -41,7 +41,7 @@ returns-in-Line c =
     let a = c.args in
     let all = turn_line a.block.now a.answer a.d a.kind a.argument c.named-g.ensures c.fits-misfit.ensures c.if-misfit-ne0.false
     (λ i. (c.slice_known-1.given i).fits) c.if-d-ge16.false c.kind_of-asked.result c.kind_of-asked.ensures
-    worked.new.block worked.auto.block (λ i. (c.slice_known-in-Line-1.given i).fits) _ c.asked-1.given.1 worked.ensures in
+    worked.new.block worked.auto.block (λ i. (c.slice_known-in-Line-1.given i).fits) _ c.in-Line.is worked.ensures in
     record { block_after = all.0; block_after_2 = all.1 }
 
 pub returns-in-Policy : goal.returns-in-Policy

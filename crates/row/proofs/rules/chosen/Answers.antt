@@ -1,6 +1,6 @@
 -- `row::rules::chosen` meets its contract.
 use mathlib.Core.Path.{subst, ◌≡◌}
-use mathlib.Core.List.{◌∷◌}
+use mathlib.Core.List.{[], ◌∷◌}
 use Prim.Native.Nat.{ℕ}
 use native.Mathlib.Omega.{arith}
 use mathlib.Core.Logic.{◌⊎◌, inl, inr}
@@ -14,7 +14,7 @@ use Rattle.row.proofs.rules.chosen.Goals as goal
 pub returns-in-Way : goal.returns-in-Way
 returns-in-Way c =
     chosen_is c.args.word c.victim-done.result c.requires.usable c.requires.fill_value c.victim-done.ensures
-    c.reply-1.given.1
+    c.in-Way.is
 
 -- no other answer than a way
 no_other : (◌≡◌ {A = ℕ} 0 1) ⊎ ((◌≡◌ {A = ℕ} 0 2) ⊎ ((◌≡◌ {A = ℕ} 0 3) ⊎ (◌≡◌ {A = ℕ} 0 4))) → ⊥

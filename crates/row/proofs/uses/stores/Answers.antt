@@ -2,10 +2,10 @@
 use Rattle.row.proofs.uses.stores.Goals as goal
 
 pub returns-in-Load : goal.returns-in-Load
-returns-in-Load c = rw c.enum_told-1.given.1
+returns-in-Load c = rw c.in-Load.is
 
 pub returns-in-Store : goal.returns-in-Store
-returns-in-Store c = rw c.enum_told-in-Store-1.given.1
+returns-in-Store c = rw c.in-Store.is
 
 pub returns-in-Flush : goal.returns-in-Flush
-returns-in-Flush c = rw c.enum_told-in-Flush-1.given.1
+returns-in-Flush c = rw c.in-Flush.is

@@ -9,15 +9,15 @@ use Rattle.trace.proofs.lines.said.Goals as goal
 
 pub returns-in-Hit : goal.returns-in-Hit
 unfolding told
-returns-in-Hit c = says tt tt tt (rw c.answer-1.given.1)
+returns-in-Hit c = says tt tt tt (rw c.in-Hit.is)
 
 pub returns-in-Fill : goal.returns-in-Fill
 unfolding told
-returns-in-Fill c = says tt tt tt (rw c.answer-in-Fill-1.given.1)
+returns-in-Fill c = says tt tt tt (rw c.in-Fill.is)
 
 pub returns-in-Evict : goal.returns-in-Evict
 unfolding told
-returns-in-Evict c = says tt tt tt (rw c.answer-in-Evict-1.given.1 (cases c.answer-in-Evict-1.given.0.1.1.0 (λ t. rw t) (λ t. rw t)))
+returns-in-Evict c = says tt tt tt (rw c.in-Evict.is (cases c.answer-in-Evict-1.given.0.1.1.0 (λ t. rw t) (λ t. rw t)))
 
 pub returns-in-Pass : goal.returns-in-Pass
 unfolding told
@@ -25,7 +25,7 @@ returns-in-Pass c = says tt tt tt (rw (bare c.args.answer 3 c.in-Pass.keys4 (inl
 
 pub returns-in-Flush : goal.returns-in-Flush
 unfolding told
-returns-in-Flush c = says tt tt tt (rw c.answer-in-Flush-1.given.1 (cases c.answer-in-Flush-1.given.0.1.0 (λ t. rw t) (λ t. rw t)))
+returns-in-Flush c = says tt tt tt (rw c.in-Flush.is (cases c.answer-in-Flush-1.given.0.1.0 (λ t. rw t) (λ t. rw t)))
 
 pub returns-in-Absent : goal.returns-in-Absent
 unfolding told
@@ -33,8 +33,8 @@ returns-in-Absent c = says tt tt tt (rw (bare c.args.answer 5 c.in-Absent.keys6 
 
 pub returns-in-Policy : goal.returns-in-Policy
 unfolding told
-returns-in-Policy c = says tt tt tt (rw c.answer-in-Policy-1.given.1)
+returns-in-Policy c = says tt tt tt (rw c.in-Policy.is)
 
 pub returns-in-Refused : goal.returns-in-Refused
 unfolding told
-returns-in-Refused c = says tt tt tt (rw c.answer-in-Refused-1.given.1)
+returns-in-Refused c = says tt tt tt (rw c.in-Refused.is)
