@@ -1,4 +1,5 @@
 -- `selectors::meant` meets its contract.
+use native.Mathlib.Omega.{arith}
 use Rattle.selectors.specs.Selectors.{selected, meant_by}
 use Rattle.selectors.proofs.MeantLaws.{stays_plain}
 use Rattle.selectors.proofs.meant.Goals as goal
@@ -26,5 +27,4 @@ returns-in-40 c = rw c.in-40.is c.select.ensures
 pub returns-in-0-to-31 : goal.returns-in-0-to-31
 returns-in-0-to-31 c =
     let x = c.args in
-    let other = c.in-0-to-31.rest in
-    stays_plain x.listed x.core _ other.0.0.0.0.1 other.0.0.0.1 other.0.0.1 other.0.1 other.1
+    stays_plain x.listed x.core _ (λ e. omega arith) (λ e. omega arith) (λ e. omega arith) (λ e. omega arith) (λ e. omega arith)
