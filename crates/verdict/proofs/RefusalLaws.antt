@@ -11,8 +11,6 @@ use native.Mathlib.Numerals.{add-one}
 use lib.Dec.{eqb, leb, lit<}
 use lib.Bits.{bit_and, bit_or, and_le_l, or_lt}
 use borrow.Author.Tests.{le-leb, lt-leb, leb-false}
-use types.Run.{OneOf}
-use denote.Enum.Declared.{tag_of}
 use Rattle.waymap.specs.Bits.{Bits, bit, word, any, reaches}
 use Rattle.waymap.proofs.Booleans.{cases}
 use Rattle.waymap.proofs.BitLaws.{bit_none, bit_and_lem, bit_or_lem}
@@ -22,14 +20,12 @@ use Rattle.replacement.specs.Rule.{rule_of}
 use Rattle.replacement.specs.Calls.{answer_of, in_limits, shares_of}
 use Rattle.replacement.specs.declared.Reply.{Reply}
 use Rattle.replacement.specs.declared.Reply.TheVariants.{Way, Done, OutsideLimits, OutOfReach, SharedNode}
-use Rattle.replacement.specs.contracts.Reply.{the_type}
 use Rattle.policy.specs.declared.Maps.{Maps}
 use Rattle.policy.proofs.ReadLaws.{hit_small, fill_within}
-use Rattle.command.proofs.KindLaws.{asked_policy, asked_unknown}
 use Rattle.geometry.proofs.GeometryLaws.{sizes_passed}
 use Rattle.geometry.specs.Geometry.{within, Lengths, sized, sizes_of}
 use Rattle.domains.specs.Domains.{no_domain, maps_of, is_full}
-use Rattle.command.specs.Kind.{Kind, kind_of, kind_is}
+use Rattle.command.specs.Kind.{Kind, kind_of, use_is, kind_is}
 use Rattle.verdict.specs.Refusal.{held_elsewhere, use_refusal, policy_refusal, refusal_by, refusal}
 use Rattle.domains.specs.Calls.{read_by}
 use Rattle.geometry.specs.declared.Geometry.{Geometry}
@@ -37,8 +33,8 @@ use Rattle.domains.specs.declared.Counts.{Counts}
 use Rattle.domains.specs.declared.Policies.{Policies}
 use Rattle.command.specs.declared.Asked.{Asked}
 use Rattle.command.specs.declared.Asked.TheVariants as AskedIs
+use Rattle.command.specs.declared.LineUse.{LineUse}
 use Rattle.command.specs.declared.LineUse.TheVariants.{Load, Store, Flush}
-use Rattle.command.specs.contracts.Asked as AskedType
 
 -- ---- number 8
 
@@ -85,34 +81,24 @@ module _ (W rule fill other : ℕ) (limits : in_limits W rule ≡ true) (f : rea
   unfolding shares_of
   shares_answer q e = rw (limits, f, o) at e
 
-  pub shared_is : (q : Reply) → tag_of the_type q ≡ 4 → answer_of q ≡ shares_of W rule fill other → true ≡ (rule_of rule W).shares fill other
-  shared_is q t e = say ((rule_of rule W).shares fill other) q t (shares_answer q e)
+  pub shared_is : (q : Reply) → q ≡ SharedNode → answer_of q ≡ shares_of W rule fill other → true ≡ (rule_of rule W).shares fill other
+  shared_is q t e = say ((rule_of rule W).shares fill other) (rw t at (shares_answer q e))
     where
-      say : (s : Bool) (q : Reply) → tag_of the_type q ≡ 4 → answer_of q ≡ cond s 9 0 ∷ [] → true ≡ s
-      say true q t e = refl
-      say false (Way w) t e = absurd (omega arith)
-      say false Done t e = absurd (omega arith)
-      say false OutsideLimits t e = absurd (omega arith)
-      say false OutOfReach t e = absurd (omega arith)
-      say false SharedNode t e = let z : ◌≡◌ {A = ℕ} 9 0 = cc in absurd (omega arith)
+      say : (s : Bool) → answer_of SharedNode ≡ cond s 9 0 ∷ [] → true ≡ s
+      say true e = refl
+      say false e = let z : ◌≡◌ {A = ℕ} 9 0 = cc in absurd (omega arith)
 
-  pub unshared_is : (q : Reply) → OneOf (0 ∷ 1 ∷ 2 ∷ 3 ∷ []) (tag_of the_type q) → answer_of q ≡ shares_of W rule fill other
+  pub unshared_is : (q : Reply) → (q ≡ SharedNode → ⊥) → answer_of q ≡ shares_of W rule fill other
       → false ≡ (rule_of rule W).shares fill other
   unshared_is q t e = say ((rule_of rule W).shares fill other) q t (shares_answer q e)
     where
-      not_four : (◌≡◌ {A = ℕ} 4 0) ⊎ ((◌≡◌ {A = ℕ} 4 1) ⊎ ((◌≡◌ {A = ℕ} 4 2) ⊎ (◌≡◌ {A = ℕ} 4 3))) → ⊥
-      not_four (inl e) = omega arith
-      not_four (inr (inl e)) = omega arith
-      not_four (inr (inr (inl e))) = omega arith
-      not_four (inr (inr (inr e))) = omega arith
-
-      say : (s : Bool) (q : Reply) → OneOf (0 ∷ 1 ∷ 2 ∷ 3 ∷ []) (tag_of the_type q) → answer_of q ≡ cond s 9 0 ∷ [] → false ≡ s
+      say : (s : Bool) (q : Reply) → (q ≡ SharedNode → ⊥) → answer_of q ≡ cond s 9 0 ∷ [] → false ≡ s
       say false q t e = refl
       say true (Way w) t e = let z : ◌≡◌ {A = ℕ} 0 9 = cc in absurd (omega arith)
       say true Done t e = let z : ◌≡◌ {A = ℕ} 0 9 = cc in absurd (omega arith)
       say true OutsideLimits t e = let z : ◌≡◌ {A = ℕ} 1 9 = cc in absurd (omega arith)
       say true OutOfReach t e = let z : ◌≡◌ {A = ℕ} 5 9 = cc in absurd (omega arith)
-      say true SharedNode t e = absurd (not_four t)
+      say true SharedNode t e = absurd (t refl)
 
 -- a policy as read stays within the ways
 pub policy_within : (W : ℕ) (all : Policies) (e : ℕ) {p : Maps} → p ≡ read_by W all e → reaches W p.fill ≡ false
@@ -156,24 +142,22 @@ module _ (g : Geometry) (n : Lengths) (policies : ℕ → Maps) (c : Counts) (dr
     by_kind h k q = rw (passed.0, passed.1, lt-leb 16 d h, ← k) q
 
     module _ (q : Asked) (k : kind_is q ≡ kind_of kind) (h : d < 16) where
-      pub by_line : {r : ℕ} → tag_of AskedType.the_type q ≡ 0 → r ≡ use_refusal (policies d) c → r ≡ refusal g n policies c drops d kind arg
+      pub by_line : (u : LineUse) → q ≡ AskedIs.Line u → {r : ℕ} → r ≡ use_refusal (policies d) c → r ≡ refusal g n policies c drops d kind arg
       unfolding refusal_by
-      by_line {r} t u = by_kind h k (line_is q t)
+      by_line u is {r} e = by_kind h (sym (ap kind_is is) ∙ k) (each u)
         where
-          line_is : (x : Asked) → tag_of AskedType.the_type x ≡ 0 → r ≡ refusal_by (kind_is x) g policies c drops d arg
-          line_is (AskedIs.Line Load) y = u
-          line_is (AskedIs.Line Store) y = u
-          line_is (AskedIs.Line Flush) y = u
-          line_is AskedIs.Policy y = absurd (omega arith)
-          line_is AskedIs.Unknown y = absurd (omega arith)
+          each : (x : LineUse) → r ≡ refusal_by (use_is x) g policies c drops d arg
+          each Load = e
+          each Store = e
+          each Flush = e
 
-      pub by_policy : {r : ℕ} → tag_of AskedType.the_type q ≡ 1 → r ≡ policy_refusal g policies c drops d arg → r ≡ refusal g n policies c drops d kind arg
+      pub by_policy : {r : ℕ} → q ≡ AskedIs.Policy → r ≡ policy_refusal g policies c drops d arg → r ≡ refusal g n policies c drops d kind arg
       unfolding refusal_by
-      by_policy t u = by_kind h (asked_policy q t ∙ k) u
+      by_policy is u = by_kind h (sym (ap kind_is is) ∙ k) u
 
-      pub by_unknown : tag_of AskedType.the_type q ≡ 2 → 4 ≡ refusal g n policies c drops d kind arg
+      pub by_unknown : q ≡ AskedIs.Unknown → 4 ≡ refusal g n policies c drops d kind arg
       unfolding refusal_by
-      by_unknown t = by_kind h (asked_unknown q t ∙ k) refl
+      by_unknown is = by_kind h (sym (ap kind_is is) ∙ k) refl
 
   -- what is known of a step that is not turned down
   pub record Stands : Type 0 where

@@ -5,11 +5,11 @@ use Rattle.purge.proofs.stays.Goals as goal
 
 pub returns-then-named-domain : goal.returns-then-named-domain
 unfolding keeps_by
-returns-then-named-domain c = rw c.meaning-1.given.1 (stays_own c.args.domain _ c.if-named-domain.true)
+returns-then-named-domain c = rw c.in-Plain.is (stays_own c.args.domain _ c.if-named-domain.true)
 
 pub returns-else-named-domain : goal.returns-else-named-domain
 unfolding keeps_by
-returns-else-named-domain c = rw c.meaning-1.given.1 (stays_other c.args.domain _ c.if-named-domain.false)
+returns-else-named-domain c = rw c.in-Plain.is (stays_other c.args.domain _ c.if-named-domain.false)
 
 pub returns-in-Select : goal.returns-in-Select
 unfolding keeps_by

@@ -6,4 +6,4 @@ pub returns-in-Policy : goal.returns-in-Policy
 returns-in-Policy c = rw c.in-Policy.is
 
 pub returns-in_default : goal.returns-in_default
-returns-in_default c = no_drops c.args.answer c.in_default.keys2
+returns-in_default c = no_drops c.args.answer c.in_default.not-Policy

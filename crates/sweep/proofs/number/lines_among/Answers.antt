@@ -8,7 +8,7 @@ loop-set-init c = begin _ _
 
 pub loop-set-preserved : goal.loop-set-preserved
 loop-set-preserved c =
-    turned c.loop-set.invariant c.loop-set-test.true c.lines_in.ensures c.wrapping_add_usize-lines.ensures
+    turned c.loop-set.invariant c.loop-set-test.true c.lines_in.ensures c.wrapping_add_usize-lines.ensures.value
 
 pub returns : goal.returns
 returns c = end c.loop-set.invariant c.loop-set-test.false

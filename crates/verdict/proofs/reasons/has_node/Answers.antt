@@ -13,7 +13,7 @@ returns-in-SharedNode c =
     (shared_is a.g.ways a.g.rule a.fill c.read_by-other.result.fill c.requires.rule_value
     c.requires.fill_value
     (policy_within a.g.ways a.policies a.e c.read_by-other.ensures) c.conflict-reply.result
-    c.in-SharedNode.keys1 c.conflict-reply.ensures)
+    c.in-SharedNode.is c.conflict-reply.ensures)
 
 pub returns-in_default : goal.returns-in_default
 returns-in_default c =
@@ -21,5 +21,5 @@ returns-in_default c =
     rw (ne_eqb a.d a.e c.if-d-e.false, ← c.read_by-other.ensures)
     (unshared_is a.g.ways a.g.rule a.fill c.read_by-other.result.fill c.requires.rule_value
     c.requires.fill_value
-    (policy_within a.g.ways a.policies a.e c.read_by-other.ensures) c.conflict-reply.result c.in_default.keys2
+    (policy_within a.g.ways a.policies a.e c.read_by-other.ensures) c.conflict-reply.result c.in_default.not-SharedNode
     c.conflict-reply.ensures)
