@@ -1,24 +1,11 @@
--- What is asked for, by its place among the code's kinds; and that document 01's kinds tell the code's apart.
+-- Document 01's kinds tell the code's apart.
 use mathlib.Core.Path.{◌≡◌, refl}
 use mathlib.Core.Bool.{true, false}
-use native.Mathlib.Omega.{arith}
-use denote.Enum.Declared.{tag_of}
 use Rattle.command.specs.Kind.{Kind, access, flush, policy, unknown, kind_is}
 use Rattle.command.specs.declared.Asked.{Asked}
 use Rattle.command.specs.declared.Asked.TheVariants.{Line, Policy, Unknown}
 use Rattle.command.specs.declared.LineUse.TheVariants.{Load, Store, Flush}
 use Rattle.command.specs.Statements.{KindInjective}
-use Rattle.command.specs.contracts.Asked as AskedType
-
-pub asked_policy : (q : Asked) → tag_of AskedType.the_type q ≡ 1 → policy ≡ kind_is q
-asked_policy (Line u) e = absurd (omega arith)
-asked_policy Policy e = refl
-asked_policy Unknown e = absurd (omega arith)
-
-pub asked_unknown : (q : Asked) → tag_of AskedType.the_type q ≡ 2 → unknown ≡ kind_is q
-asked_unknown (Line u) e = absurd (omega arith)
-asked_unknown Policy e = absurd (omega arith)
-asked_unknown Unknown e = refl
 
 -- What a kind asks for.
 asked_of : Kind → Asked

@@ -35,9 +35,7 @@ use Rattle.command.specs.declared.LineUse.TheVariants.{Load, Store, Flush}
 use Rattle.domains.specs.declared.Domain.{Domain}
 use Rattle.domains.specs.declared.Domains.{Domains}
 use Rattle.domains.specs.declared.Policies.{Policies}
-use Rattle.command.specs.contracts.Asked as AskedType
 use Rattle.geometry.proofs.GeometryLaws.{limited}
-use Rattle.command.proofs.KindLaws.{asked_policy}
 use Rattle.verdict.proofs.RefusalLaws.{by_line, by_policy, by_unknown}
 use Rattle.verdict.proofs.PolicyLaws.{read_policies, read_held}
 use Rattle.geometry.specs.Address.{set_of, tag_of}
@@ -146,8 +144,7 @@ module _ (g : Geometry) (d kind arg : ℕ) (t : Tables) (ds : Domains) where
 
         number : use_refusal (policies g.ways ds d) (domain_of ds d).counts ≡ step_number
         number =
-            by_line g (lengths t) (policies g.ways ds) (domain_of ds d).counts (drops_of g d arg found) d kind arg e z q k l
-            (ap (variant_of AskedType.the_type) is) refl
+            by_line g (lengths t) (policies g.ways ds) (domain_of ds d).counts (drops_of g d arg found) d kind arg e z q k l y is refl
 
         kind_line : (y : LineUse) → use_is y ≡ kind_of kind
             → use_line g (line_work (flushes y) (rule_of g.rule g.ways) (stores y)) d arg found ≡ step_by (kind_of kind) g d arg found
@@ -155,13 +152,13 @@ module _ (g : Geometry) (d kind arg : ℕ) (t : Tables) (ds : Domains) where
         kind_line Store p = ap (λ (x : Kind). step_by x g d arg found) p
         kind_line Flush p = ap (λ (x : Kind). step_by x g d arg found) p
 
-    pub step_policy : {p : Policies} {deed : Deed} → variant_of AskedType.the_type q ≡ 1 → p ≡ policies_of ds
+    pub step_policy : {p : Policies} {deed : Deed} → q ≡ AskedIs.Policy → p ≡ policies_of ds
         → deed ≡ policy_deed g (domain_of ds d) p d arg t → put_deed d deed ds ≡ step g d kind arg found
     unfolding policy_deed policy_refusal_of step_by change_policy dropped_by policies
     step_policy {p} is o f =
         step_done (Policy n (total W g.sets (dropped_dirty old new) t)) (new_domain arg n (domain_of ds d))
         (each_set W g.sets (cleaned (rule_of g.rule W) old new) t) number
-        (ap (λ (x : Kind). step_by x g d arg found) (asked_policy q is ∙ k)) f
+        (ap (λ (x : Kind). step_by x g d arg found) (sym (ap kind_is is) ∙ k)) f
       where
         W : ℕ
         W = g.ways
@@ -191,7 +188,7 @@ module _ (g : Geometry) (d kind arg : ℕ) (t : Tables) (ds : Domains) where
             ∙ rw (h.limited.limits, drops) (read_policies g ds own.counts (drops_of g d arg found) d arg) ∙ verdict
 
   pub step_unknown : (q : Asked) → kind_is q ≡ kind_of kind → {m : ℕ} → m ≡ sizes_of g (lengths t) → m ≡ 0 → d < 16
-      → variant_of AskedType.the_type q ≡ 2 → answers (Refused 4) found ≡ step g d kind arg found
+      → q ≡ AskedIs.Unknown → answers (Refused 4) found ≡ step g d kind arg found
   step_unknown q k e z l is =
       step_refused (by_unknown g (lengths t) (policies g.ways ds) (domain_of ds d).counts (drops_of g d arg found) d kind arg e z q k l is)
       (λ n. omega arith)
