@@ -18,7 +18,7 @@ returns-in-Evict c = rw (c.in-Evict.is, c.digit.ensures)
 
 pub returns-in-Pass : goal.returns-in-Pass
 unfolding padded
-returns-in-Pass c = rw (bare c.args.answer 3 c.in-Pass.keys4 (inl refl))
+returns-in-Pass c = rw (bare c.args.answer 3 c.in-Pass.is (inl refl))
 
 pub returns-in-Flush : goal.returns-in-Flush
 unfolding padded
@@ -26,7 +26,7 @@ returns-in-Flush c = rw (c.in-Flush.is, c.digit-in-Flush.ensures)
 
 pub returns-in-Absent : goal.returns-in-Absent
 unfolding padded
-returns-in-Absent c = rw (bare c.args.answer 5 c.in-Absent.keys6 (inr refl))
+returns-in-Absent c = rw (bare c.args.answer 5 c.in-Absent.is (inr refl))
 
 pub returns-in-Policy : goal.returns-in-Policy
 unfolding padded

@@ -50,7 +50,7 @@ returns-in-Policy c =
     let a = c.args in
     let all = turn_policy a.block.now a.answer a.d a.kind a.argument c.named-g.ensures c.fits-misfit.ensures c.if-misfit-ne0.false
     (λ i. (c.slice_known-1.given i).fits) c.if-d-ge16.false c.kind_of-asked.result c.kind_of-asked.ensures
-    worked.new.block worked.auto.block (λ i. (c.slice_known-in-Policy-1.given i).fits) c.in-Policy.keys2 worked.ensures in
+    worked.new.block worked.auto.block (λ i. (c.slice_known-in-Policy-1.given i).fits) c.in-Policy.is worked.ensures in
     record { block_after = all.0; block_after_2 = all.1 }
 
 pub returns-in-Unknown : goal.returns-in-Unknown
@@ -58,5 +58,5 @@ returns-in-Unknown c =
     let a = c.args in
     let all = turn_unknown a.block.now a.answer a.d a.kind a.argument c.named-g.ensures c.fits-misfit.ensures c.if-misfit-ne0.false
     (λ i. (c.slice_known-1.given i).fits) c.if-d-ge16.false c.kind_of-asked.result c.kind_of-asked.ensures
-    c.in-Unknown.keys3 in
+    c.in-Unknown.is in
     record { block_after = all.0; block_after_2 = all.1 }

@@ -5,7 +5,7 @@ use Rattle.cache.proofs.sets.sweep_set.Goals as goal
 
 pub returns : goal.returns
 returns c =
-    let span = c.Span-of in
+    let span = c.span_of-span in
     let swept = c.swept-done in
     let a = c.args in
     row_done a.g.ways a.set span.result.start span.result.stop (sweep_by a.sweep)

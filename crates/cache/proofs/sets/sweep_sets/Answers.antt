@@ -2,19 +2,14 @@
 use mathlib.Core.Path.{sym, ◌∙◌}
 use Prim.Native.Nat.{◌-◌}
 use native.Mathlib.Omega.{arith}
-use Rattle.steps.specs.Tables.{Tables}
 use Rattle.steps.specs.Step.{tables_of}
 use Rattle.steps.proofs.SweepLaws.{begin, turned, end}
 use Rattle.cache.proofs.sets.sweep_sets.Goals as goal
-use Rattle.cache.proofs.sets.sweep_sets.Goals.{Start}
-
--- the tables as they were lent
-abbrev lent : Start invariant-loop decreases-loop → Tables
-lent c = tables_of c.args.tags.now c.args.valid.now c.args.dirty.now c.args.words.now
 
 pub loop-set-init : goal.loop-set-init
 loop-set-init c =
-    begin c.args.g c.args.sweep (lent c) c.requires
+    let lent = tables_of c.args.tags.now c.args.valid.now c.args.dirty.now c.args.words.now in
+    begin c.args.g c.args.sweep lent c.requires
 
 pub sweep_set-answer-requires : goal.sweep_set-answer-requires
 sweep_set-answer-requires c =
@@ -33,10 +28,10 @@ loop-set-smaller c =
 
 pub loop-set-preserved : goal.loop-set-preserved
 loop-set-preserved c =
+    let lent = tables_of c.args.tags.now c.args.valid.now c.args.dirty.now c.args.words.now in
     let l = c.loop-set in
-    let last = c.sweep_set-answer.new.1 in
-    turned c.args.g c.args.sweep (lent c) (tables_of l.tags l.valid l.dirty l.words) c.requires l.invariant
-    c.loop-set-test.true {u = tables_of last.0 last.1.0 last.1.1.0 last.1.1.1.0} c.sweep_set-answer.ensures c.added-drops.ensures
+    turned c.args.g c.args.sweep lent (tables_of l.tags l.valid l.dirty l.words) c.requires l.invariant
+    c.loop-set-test.true {u = tables_of c.sweep_set-answer.new.tags c.sweep_set-answer.new.valid c.sweep_set-answer.new.dirty c.sweep_set-answer.new.words} c.sweep_set-answer.ensures c.added-drops.ensures
 
 pub shape_of-tags : goal.shape_of-tags
 shape_of-tags c = c.loop-set.invariant.shaped.tags_long ∙ sym c.requires.tags_long
@@ -52,5 +47,6 @@ shape_of-words c = c.loop-set.invariant.shaped.words_long ∙ sym c.requires.wor
 
 pub returns : goal.returns
 returns c =
+    let lent = tables_of c.args.tags.now c.args.valid.now c.args.dirty.now c.args.words.now in
     let l = c.loop-set in
-    end c.args.g c.args.sweep (lent c) (tables_of l.tags l.valid l.dirty l.words) l.invariant c.loop-set-test.false
+    end c.args.g c.args.sweep lent (tables_of l.tags l.valid l.dirty l.words) l.invariant c.loop-set-test.false

@@ -11,9 +11,9 @@ returns c =
     let p = c.place_of-found.ensures in
     rw (← p.set_is, ← p.tag_is)
     (row_done a.g.ways c.place_of-found.result.set
-    c.Span-of.result.start
-    c.Span-of.result.stop
+    c.span_of-span.result.start
+    c.span_of-span.result.stop
     (use_of a.usage a.g.rule a.maps c.place_of-found.result.tag)
     a.tags.now a.valid.now a.dirty.now a.words.now c.use_line-done.result c.use_line-done.new.tags
-    c.Span-of.ensures.start_is
-    c.Span-of.ensures.stop_is c.use_line-done.ensures)
+    c.span_of-span.ensures.start_is
+    c.span_of-span.ensures.stop_is c.use_line-done.ensures)
