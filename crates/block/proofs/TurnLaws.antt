@@ -1,6 +1,5 @@
 -- A step on a block: what it gives, by what its tests find.
 use Rattle.std.proofs.Common.{◌≡◌, ℕ, ◌<◌, ◌≤◌, true, List, length, take, sym, refl, ap, ◌∙◌, arith, eq-eqb, ne_eqb}
-use denote.Enum.Declared.{tag_of}
 use Rattle.endian.specs.Bytes.{cut}
 use Rattle.endian.proofs.FieldLaws.{field_front}
 use Rattle.runs.specs.Runs.{Bytes}
@@ -11,7 +10,6 @@ use Rattle.command.specs.declared.Answer.TheVariants.{Refused}
 use Rattle.command.specs.declared.Asked.{Asked}
 use Rattle.command.specs.declared.Asked.TheVariants as AskedIs
 use Rattle.command.specs.declared.LineUse.{LineUse}
-use Rattle.command.specs.contracts.Asked as AskedType
 use Rattle.geometry.specs.Geometry.{within, sized, sizes_of}
 use Rattle.geometry.specs.Named.{geometry_of}
 use Rattle.geometry.specs.declared.Geometry.{Geometry}
@@ -111,7 +109,7 @@ module _ (block : List ℕ) (a d kind arg : ℕ) {g : Geometry} (is : g ≡ geom
         (λ q. omega arith))
 
     module _ (l : d < 16) (q : Asked) (k : kind_is q ≡ kind_of kind) where
-      pub turn_unknown : tag_of AskedType.the_type q ≡ 2 → Turned block a d kind arg (Refused 4) block
+      pub turn_unknown : q ≡ AskedIs.Unknown → Turned block a d kind arg (Refused 4) block
       turn_unknown t = turned_down 4 (step_unknown g d kind arg (tables_in g block) (domains_in g block) q k no_size refl l t)
 
       module _ {r : Answer} (after : List ℕ) (long : length after ≡ length block) (b : Bytes after) where
@@ -129,7 +127,7 @@ module _ (block : List ℕ) (a d kind arg : ℕ) {g : Geometry} (is : g ≡ geom
             deed_done _ f
             (step_line g d kind arg (tables_in g block) (domains_in g block) (tables_shaped g block turn_blocked) q k no_size refl l y t refl)
 
-        pub turn_policy : tag_of AskedType.the_type q ≡ 1
+        pub turn_policy : q ≡ AskedIs.Policy
             → did_of r (contents g after)
             ≡ deed_did d (policy_deed g (domain_of (domains_in g block) d) (policies_of (domains_in g block)) d arg (tables_in g block)) (contents g block)
             → Turned block a d kind arg r after

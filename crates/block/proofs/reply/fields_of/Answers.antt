@@ -1,6 +1,5 @@
 -- `block::reply::fields_of` meets its contract.
 use Rattle.std.proofs.Common.{refl, inl, inr}
-use Rattle.command.proofs.AnswerLaws.{bare}
 use Rattle.block.specs.Block.{padded}
 use Rattle.block.proofs.reply.fields_of.Goals as goal
 
@@ -18,7 +17,7 @@ returns-in-Evict c = rw (c.in-Evict.is, c.digit.ensures)
 
 pub returns-in-Pass : goal.returns-in-Pass
 unfolding padded
-returns-in-Pass c = rw (bare c.args.answer 3 c.in-Pass.is (inl refl))
+returns-in-Pass c = rw c.in-Pass.is
 
 pub returns-in-Flush : goal.returns-in-Flush
 unfolding padded
@@ -26,7 +25,7 @@ returns-in-Flush c = rw (c.in-Flush.is, c.digit-in-Flush.ensures)
 
 pub returns-in-Absent : goal.returns-in-Absent
 unfolding padded
-returns-in-Absent c = rw (bare c.args.answer 5 c.in-Absent.is (inr refl))
+returns-in-Absent c = rw c.in-Absent.is
 
 pub returns-in-Policy : goal.returns-in-Policy
 unfolding padded

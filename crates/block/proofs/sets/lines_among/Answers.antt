@@ -30,7 +30,7 @@ loop-set-preserved c =
     let valid = numbers 2 a.g.sets (drop 520 a.block.now) in
     let read = c.u16_at-valid.ensures ∙ valid_at a.g.sets set a.block.now c.loop-set-test.true in
     turned c.loop-set.invariant (rw (numbers_long 2 a.g.sets (drop 520 a.block.now)) c.loop-set-test.true)
-    (c.lines_in.ensures ∙ ap (λ (v : ℕ). count 16 (λ (w : ℕ). bit a.map w && bit v w)) read) c.wrapping_add_usize-lines.ensures
+    (c.lines_in.ensures ∙ ap (λ (v : ℕ). count 16 (λ (w : ℕ). bit a.map w && bit v w)) read) c.wrapping_add_usize-lines.ensures.value
 
 pub returns : goal.returns
 returns c =

@@ -18,7 +18,7 @@ returns c =
     (record {
       long = long;
       tags = λ i. (c.slice_known-4-1.given i).fits;
-      valid = omega (arith, done.type-inv);
-      dirty = omega (arith, done.type-inv);
-      word = omega (arith, done.type-inv);
+      valid = omega (arith, done.type_inv);
+      dirty = omega (arith, done.type_inv);
+      word = omega (arith, done.type_inv);
     })
