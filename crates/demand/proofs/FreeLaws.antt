@@ -25,15 +25,15 @@ any_last zero p = refl
 any_last (suc n) p = cases (p 0) (λ t. rw (t, or-true (p (suc n)))) (λ t. rw t (any_last n (λ (i : ℕ). p (suc i))))
 
 -- a range of ways is looked through from its end as from its start
-some_in : (map low n : ℕ) → some_in map low n ≡ any n (λ (v : ℕ). bit map (low + v))
+some_in_lem : (map low n : ℕ) → some_in map low n ≡ any n (λ (v : ℕ). bit map (low + v))
 unfolding some_in digit bit any
-some_in map low zero = refl
-some_in map low (suc n) =
-    ap (λ (t : Bool). bit map (low + n) || t) (some_in map low n) ∙ sym (any_last n (λ (v : ℕ). bit map (low + v)))
+some_in_lem map low zero = refl
+some_in_lem map low (suc n) =
+    ap (λ (t : Bool). bit map (low + n) || t) (some_in_lem map low n) ∙ sym (any_last n (λ (v : ℕ). bit map (low + v)))
 
 -- Of count places on a level, each with 2 ^ r ways below it, number p holds a way of the map where the map has one of its range.
 holds_some : (W r count p map : ℕ) → count * 2 ^ r ≡ W → p < count → holds W (bit map) (count - 1 + p) ≡ some_in map (p * 2 ^ r) (2 ^ r)
-holds_some W r count p map whole h = holds_block W r count p whole h (bit map) ∙ sym (some_in map (p * 2 ^ r) (2 ^ r))
+holds_some W r count p map whole h = holds_block W r count p whole h (bit map) ∙ sym (some_in_lem map (p * 2 ^ r) (2 ^ r))
 
 -- ---- the places below a node
 

@@ -49,9 +49,7 @@ shape_of-out c = c.listing.auto.out
 pub returns : goal.returns
 returns c =
     let listed = c.listing in
-    let new = listed.new.1.1.1 in
-    let kept = listed.auto.1.1.1 in
-    listed_is c.args.file.now (tables_of new.0 new.1.0 new.1.1.0 new.1.1.1.0)
+    listed_is c.args.file.now (tables_of listed.new.tags listed.new.valid listed.new.dirty listed.new.words)
     c.named-g.ensures c.steps-steps.ensures c.requires.file_value c.requires.roomy
-    (λ j. record { tags = kept.0 j; valid = kept.1.0 j; dirty = kept.1.1.0 j; words = kept.1.1.1.0 j })
+    (λ j. record { tags = listed.auto.tags j; valid = listed.auto.valid j; dirty = listed.auto.dirty j; words = listed.auto.words j })
     listed.ensures.out_after listed.ensures.upper_bound

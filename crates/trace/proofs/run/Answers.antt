@@ -48,10 +48,9 @@ loop-i-preserved c =
     let answered = c.answer-next in
     let turned = c.turn-turned in
     let kept = turned.auto in
-    let left = turned.new.1 in
     let looped = c.loop-i in
     let step = command_is c.command_at-command.result in
-    let tables = tables_of left.0 left.1.0 left.1.1.0 left.1.1.1.0 in
+    let tables = tables_of turned.new.tags turned.new.valid turned.new.dirty turned.new.words in
     let cores = set looped.cores (step.domain % max_cores) turned.result.core in
     run_turned step (result_of turned.result.stepped tables cores) looped.invariant c.loop-i-test.true c.command_at-command.ensures
     (placed_step _ step _ looped.invariant.cores_long _ turned.result tables refl turned.ensures)

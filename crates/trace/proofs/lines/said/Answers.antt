@@ -21,7 +21,7 @@ returns-in-Evict c = says tt tt tt (rw c.in-Evict.is (cases c.answer-in-Evict-1.
 
 pub returns-in-Pass : goal.returns-in-Pass
 unfolding told
-returns-in-Pass c = says tt tt tt (rw (bare c.args.answer 3 c.in-Pass.keys4 (inl refl)))
+returns-in-Pass c = says tt tt tt (rw (bare c.args.answer 3 c.in-Pass.is (inl refl)))
 
 pub returns-in-Flush : goal.returns-in-Flush
 unfolding told
@@ -29,7 +29,7 @@ returns-in-Flush c = says tt tt tt (rw c.in-Flush.is (cases c.answer-in-Flush-1.
 
 pub returns-in-Absent : goal.returns-in-Absent
 unfolding told
-returns-in-Absent c = says tt tt tt (rw (bare c.args.answer 5 c.in-Absent.keys6 (inr refl)))
+returns-in-Absent c = says tt tt tt (rw (bare c.args.answer 5 c.in-Absent.is (inr refl)))
 
 pub returns-in-Policy : goal.returns-in-Policy
 unfolding told
