@@ -12,14 +12,42 @@ overflow_mul-cells c =
 pub slice_bounds-listing-count : goal.slice_bounds-listing-count
 slice_bounds-listing-count c = zero-le
 
+pub slice_bounds-listing-start : goal.slice_bounds-listing-start
+slice_bounds-listing-start c = zero-le
+
+pub slice_bounds-listing-end : goal.slice_bounds-listing-end
+slice_bounds-listing-end c =
+    (fitting c.args.file.now c.named-g.ensures c.steps-steps.ensures c.requires.file_value c.requires.roomy).tags_room
+
 pub slice_bounds-listing-count-2 : goal.slice_bounds-listing-count-2
 slice_bounds-listing-count-2 c = zero-le
+
+pub slice_bounds-listing-start-2 : goal.slice_bounds-listing-start-2
+slice_bounds-listing-start-2 c = zero-le
+
+pub slice_bounds-listing-end-2 : goal.slice_bounds-listing-end-2
+slice_bounds-listing-end-2 c =
+    (fitting c.args.file.now c.named-g.ensures c.steps-steps.ensures c.requires.file_value c.requires.roomy).valid_room
 
 pub slice_bounds-listing-count-3 : goal.slice_bounds-listing-count-3
 slice_bounds-listing-count-3 c = zero-le
 
+pub slice_bounds-listing-start-3 : goal.slice_bounds-listing-start-3
+slice_bounds-listing-start-3 c = zero-le
+
+pub slice_bounds-listing-end-3 : goal.slice_bounds-listing-end-3
+slice_bounds-listing-end-3 c =
+    (fitting c.args.file.now c.named-g.ensures c.steps-steps.ensures c.requires.file_value c.requires.roomy).dirty_room
+
 pub slice_bounds-listing-count-4 : goal.slice_bounds-listing-count-4
 slice_bounds-listing-count-4 c = zero-le
+
+pub slice_bounds-listing-start-4 : goal.slice_bounds-listing-start-4
+slice_bounds-listing-start-4 c = zero-le
+
+pub slice_bounds-listing-end-4 : goal.slice_bounds-listing-end-4
+slice_bounds-listing-end-4 c =
+    (fitting c.args.file.now c.named-g.ensures c.steps-steps.ensures c.requires.file_value c.requires.roomy).words_room
 
 pub listing-requires : goal.listing-requires
 listing-requires c =

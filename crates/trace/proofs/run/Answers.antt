@@ -54,7 +54,7 @@ loop-i-preserved c =
     let cores = set looped.cores (step.domain % max_cores) turned.result.core in
     run_turned step (result_of turned.result.stepped tables cores) looped.invariant c.loop-i-test.true c.command_at-command.ensures
     (placed_step _ step _ looped.invariant.cores_long _ turned.result tables refl turned.ensures)
-    (λ j. record { tags = kept.1.0 j; valid = kept.1.1.0 j; dirty = kept.1.1.1.0 j; words = kept.1.1.1.1.0 j })
+    (λ j. record { tags = kept.tags j; valid = kept.valid j; dirty = kept.dirty j; words = kept.words j })
     (length-set looped.cores (step.domain % max_cores) turned.result.core) answered.ensures.out_after answered.ensures.upper_bound
 
 pub domains-requires : goal.domains-requires

@@ -5,5 +5,4 @@ use Rattle.trace.proofs.lines.domain.Goals as goal
 pub returns : goal.returns
 unfolding domain_line
 returns c =
-    let all = c.told.ensures in
-    record { out_after = all.0; upper_bound = all.1 }
+    record { out_after = c.told.ensures.out_after; upper_bound = c.told.ensures.upper_bound }

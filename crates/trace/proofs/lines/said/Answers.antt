@@ -17,19 +17,19 @@ returns-in-Fill c = says tt tt tt (rw c.in-Fill.is)
 
 pub returns-in-Evict : goal.returns-in-Evict
 unfolding told
-returns-in-Evict c = says tt tt tt (rw c.in-Evict.is (cases c.answer-in-Evict-1.given.0.1.1.0 (λ t. rw t) (λ t. rw t)))
+returns-in-Evict c = says tt tt tt (rw c.in-Evict.is (cases c.in-Evict.dirty (λ t. rw t) (λ t. rw t)))
 
 pub returns-in-Pass : goal.returns-in-Pass
 unfolding told
-returns-in-Pass c = says tt tt tt (rw (bare c.args.answer 3 c.in-Pass.is (inl refl)))
+returns-in-Pass c = says tt tt tt (rw c.in-Pass.is)
 
 pub returns-in-Flush : goal.returns-in-Flush
 unfolding told
-returns-in-Flush c = says tt tt tt (rw c.in-Flush.is (cases c.answer-in-Flush-1.given.0.1.0 (λ t. rw t) (λ t. rw t)))
+returns-in-Flush c = says tt tt tt (rw c.in-Flush.is (cases c.in-Flush.dirty (λ t. rw t) (λ t. rw t)))
 
 pub returns-in-Absent : goal.returns-in-Absent
 unfolding told
-returns-in-Absent c = says tt tt tt (rw (bare c.args.answer 5 c.in-Absent.is (inr refl)))
+returns-in-Absent c = says tt tt tt (rw c.in-Absent.is)
 
 pub returns-in-Policy : goal.returns-in-Policy
 unfolding told

@@ -46,6 +46,6 @@ returns c =
     let put = c.put-next in
     record {
     out_after = number_is (written_of c.args.at c.args.out.now) c.args.end few spelled.ensures.len
-          spelled.ensures.1.1 put.ensures.out_after;
+          spelled.ensures.digits put.ensures.out_after;
     upper_bound = number_short c.args.at few spelled.ensures.in_bounds.1 c.requires put.ensures.value;
 }
