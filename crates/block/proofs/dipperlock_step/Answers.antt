@@ -8,7 +8,7 @@ pub returns : goal.returns
 unfolding step_call
 returns c =
     record {
-    answer_after = ap (λ (q : Replied). stepped_of q.result c.step-told.new.block q.answer) c.put.ensures
+      answer_after = ap (λ (q : Replied). stepped_of q.result c.step-told.new.block q.answer) c.put.ensures
           ∙ ap (λ (t : Turn). stepped_of (number_in t.told) t.block (filled t.told c.args.answer.now)) c.step-told.ensures.block_after;
-    block_after = c.step-told.ensures.block_after_2;
-}
+      block_after = c.step-told.ensures.block_after_2;
+    }

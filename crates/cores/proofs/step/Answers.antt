@@ -22,8 +22,8 @@ returns c =
     let asked : Command = record { domain = a.named; kind = a.kind; argument = a.argument } in
     let after : Tables = tables_of c.turn-turned.new.tags c.turn-turned.new.valid c.turn-turned.new.dirty c.turn-turned.new.words in
     let read : c.if-inside.core ≡ get_or a.cores.now a.named no_core =
-      elim c.if-inside.branch [ then-inside w ↦ w.core-is | else-inside w ↦ w.core-is ∙ sym (get_or-eq_default a.cores.now no_core w.if-inside.false) ] in
+    elim c.if-inside.branch [ then-inside w ↦ w.core-is | else-inside w ↦ w.core-is ∙ sym (get_or-eq_default a.cores.now no_core w.if-inside.false) ] in
     let put : c.if-inside-2.cores ≡ set a.cores.now a.named c.turn-turned.result.core =
-      elim c.if-inside-2.branch [ then-inside-2 w ↦ w.cores-is | else-inside-2 w ↦ w.cores-is ∙ sym (set_out a.cores.now a.named c.turn-turned.result.core w.if-inside-2.false) ] in
+    elim c.if-inside-2.branch [ then-inside-2 w ↦ w.cores-is | else-inside-2 w ↦ w.cores-is ∙ sym (set_out a.cores.now a.named c.turn-turned.result.core w.if-inside-2.false) ] in
     ap (λ (l : List Core). result_of c.turn-turned.result.stepped after l) put
     ∙ turned_step a.g asked x c.turn-turned.result after (rw read at c.turn-turned.ensures)

@@ -28,9 +28,9 @@ returns-then-is_at c =
     let low = c.lowest_way-way.ensures in
     let here = next_matches inv some low c.is_at.ensures c.if-is_at.true in
     record {
-    way_value = next_way inv some low here;
-    visited_value = ap₂ (λ (a r : ℕ). a - r) c.count_ways-all.ensures c.count_ways.ensures ∙ next_visited inv some low here;
-}
+      way_value = next_way inv some low here;
+      visited_value = ap₂ (λ (a r : ℕ). a - r) c.count_ways-all.ensures c.count_ways.ensures ∙ next_visited inv some low here;
+    }
 
 pub loop-left-smaller : goal.loop-left-smaller
 loop-left-smaller c =
@@ -47,6 +47,6 @@ pub returns : goal.returns
 returns c =
     let inv = c.loop-left.invariant in
     record {
-    way_value = end_way inv c.loop-left-test.false;
-    visited_value = c.count_ways-all.ensures ∙ end_visited inv c.loop-left-test.false;
-}
+      way_value = end_way inv c.loop-left-test.false;
+      visited_value = c.count_ways-all.ensures ∙ end_visited inv c.loop-left-test.false;
+    }

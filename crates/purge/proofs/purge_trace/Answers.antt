@@ -21,10 +21,10 @@ returns-then-kept_arguments-steps c =
 pub take_all-count-requires : goal.take_all-count-requires
 take_all-count-requires c =
     record {
-    arguments_len = c.if-arguments-steps.false;
-    kept_codes_len = c.if-kept_codes-steps.false;
-    kept_arguments_len = c.if-kept_arguments-steps.false;
-}
+      arguments_len = c.if-arguments-steps.false;
+      kept_codes_len = c.if-kept_codes-steps.false;
+      kept_arguments_len = c.if-kept_arguments-steps.false;
+    }
 
 pub returns : goal.returns
 returns c = c.take_all-count.ensures

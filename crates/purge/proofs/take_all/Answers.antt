@@ -24,9 +24,9 @@ bounds-cores-place c = c.place_of-place.ensures.upper_bound
 pub take_one-count-requires : goal.take_one-count-requires
 take_one-count-requires c =
     record {
-    count_in_bounds = fits_codes c.loop-i.invariant c.loop-i-test.true;
-    count_in_bounds_2 = fits_arguments c.loop-i.invariant c.loop-i-test.true;
-}
+      count_in_bounds = fits_codes c.loop-i.invariant c.loop-i-test.true;
+      count_in_bounds_2 = fits_arguments c.loop-i.invariant c.loop-i-test.true;
+    }
 
 pub offset_bounds-cores-place-in-loop-i : goal.offset_bounds-cores-place-in-loop-i
 offset_bounds-cores-place-in-loop-i c = omega (arith, c.place_of-place.ensures.upper_bound)

@@ -25,9 +25,9 @@ returns-else-in_limits c = rw (sym c.in_limits.ensures ∙ c.if-in_limits.false)
 pub hit-requires : goal.hit-requires
 hit-requires c =
     record {
-    usable = usable (goal.at.hit-requires c).After-as_read-read;
-    way_lt_ways = c.if-way-ways.true;
-}
+      usable = usable (goal.at.hit-requires c).After-as_read-read;
+      way_lt_ways = c.if-way-ways.true;
+    }
 
 pub returns-then-way-ways : goal.returns-then-way-ways
 unfolding access_of
@@ -51,9 +51,9 @@ pub bring-requires : goal.bring-requires
 bring-requires c =
     let a = c.args in
     record {
-    usable = usable (goal.at.bring-requires c).After-as_read-read;
-    fill_value = some_fill (length a.tags.now) a.rule c.as_read-read.result.fill (usable (goal.at.bring-requires c).After-as_read-read) c.if-fill-eq0.false;
-}
+      usable = usable (goal.at.bring-requires c).After-as_read-read;
+      fill_value = some_fill (length a.tags.now) a.rule c.as_read-read.result.fill (usable (goal.at.bring-requires c).After-as_read-read) c.if-fill-eq0.false;
+    }
 
 pub returns : goal.returns
 unfolding access_of

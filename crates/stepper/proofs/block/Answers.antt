@@ -8,12 +8,12 @@ pub show-shown-requires : goal.show-shown-requires
 show-shown-requires c =
     let span = c.Span-of.ensures in
     record {
-    rows = rows_below span.1 c.requires.rows;
-    from_le_to = span.0;
-    to_le_max_file_sets = le_trans span.1 c.requires.small.few_sets;
-    ways_bound = c.requires.small.few_ways;
-    max_file_sets_in_bounds = c.requires.max_file_sets_in_bounds;
-}
+      rows = rows_below span.1 c.requires.rows;
+      from_le_to = span.0;
+      to_le_max_file_sets = le_trans span.1 c.requires.small.few_sets;
+      ways_bound = c.requires.small.few_ways;
+      max_file_sets_in_bounds = c.requires.max_file_sets_in_bounds;
+    }
 
 pub shape_of-tags-then-i-n : goal.shape_of-tags-then-i-n
 shape_of-tags-then-i-n c = refl
@@ -33,9 +33,9 @@ shape_of-out-then-i-n c = c.show-shown.auto.out
 pub take-requires : goal.take-requires
 take-requires c =
     record {
-    small = c.requires.small;
-    rows = c.requires.rows;
-}
+      small = c.requires.small;
+      rows = c.requires.rows;
+    }
 
 pub shape_of-tags : goal.shape_of-tags
 shape_of-tags c = c.take.auto.tags

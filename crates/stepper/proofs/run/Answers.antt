@@ -15,10 +15,10 @@ block-shown-requires c =
     let rows = rows_kept (kept.tags_same ∙ made.0) (kept.valid_same ∙ made.1.0) (kept.dirty_same ∙ made.1.1.0)
     (kept.words_same ∙ made.1.1.1.0) c.requires.rows in
     record {
-    small = c.requires.small;
-    rows = rows;
-    max_file_sets_in_bounds = le_trans c.requires.max_file_sets_in_bounds (le_of_eq (sym kept.out_same));
-}
+      small = c.requires.small;
+      rows = rows;
+      max_file_sets_in_bounds = le_trans c.requires.max_file_sets_in_bounds (le_of_eq (sym kept.out_same));
+    }
 
 pub loop-i-smaller : goal.loop-i-smaller
 loop-i-smaller c =

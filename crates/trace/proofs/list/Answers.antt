@@ -12,13 +12,13 @@ returns-then-number-ne0 c =
     (tables_of given.tags.now given.valid.now given.dirty.now given.words.now)
     c.refusal-number.ensures c.if-number-ne0.true (search rules) refused.ensures.out_after refused.ensures.upper_bound in
     record {
-    words_after = is;
-    prefix_len = listed_counts _ _ _ is;
-}
+      words_after = is;
+      prefix_len = listed_counts _ _ _ is;
+    }
 
 pub returns : goal.returns
 returns c =
     record {
-    words_after = c.list_file.ensures;
-    prefix_len = listed_counts _ _ _ c.list_file.ensures;
-}
+      words_after = c.list_file.ensures;
+      prefix_len = listed_counts _ _ _ c.list_file.ensures;
+    }

@@ -53,11 +53,11 @@ pub listing-requires : goal.listing-requires
 listing-requires c =
     let room = fitting c.args.file.now c.named-g.ensures c.steps-steps.ensures c.requires.file_value c.requires.roomy in
     record {
-    g_value = room.stands;
-    words_value = lent_sized room;
-    steps_le_max_steps = room.few_steps;
-    in_bounds = room.out_room;
-}
+      g_value = room.stands;
+      words_value = lent_sized room;
+      steps_le_max_steps = room.few_steps;
+      in_bounds = room.out_room;
+    }
 
 pub shape_of-tags : goal.shape_of-tags
 shape_of-tags c = c.tags-1.given.1

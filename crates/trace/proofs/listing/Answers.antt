@@ -37,11 +37,11 @@ pub returns : goal.returns
 returns c =
     let given = c.args in
     record {
-    out_after = listing_is given.g given.file.now given.steps given.out.now
+      out_after = listing_is given.g given.file.now given.steps given.out.now
           (tables_of given.tags.now given.valid.now given.dirty.now given.words.now)
           (tables_of c.fresh_tables.new.tags c.fresh_tables.new.valid c.fresh_tables.new.dirty c.fresh_tables.new.words)
           (written_of c.head-head.result c.head-head.new.out)
           (listed_by (tables_of c.run.new.tags c.run.new.valid c.run.new.dirty c.run.new.words) (written_of c.run.result c.run.new.out))
           c.requires.g_value c.requires.words_value c.fresh_tables.ensures c.head-head.ensures.out_after c.run.ensures.out_after;
-    upper_bound = listing_short c.run.ensures.upper_bound c.head-head.ensures.upper_bound c.requires.steps_le_max_steps;
-}
+      upper_bound = listing_short c.run.ensures.upper_bound c.head-head.ensures.upper_bound c.requires.steps_le_max_steps;
+    }

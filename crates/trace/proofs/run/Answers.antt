@@ -80,6 +80,6 @@ returns c =
     let named = c.domains in
     let looped = c.loop-i in
     record {
-    out_after = run_ended looped.invariant c.loop-i-test.false c.fresh_domains.ensures refl named.ensures.out_after;
-    upper_bound = run_short looped.invariant named.ensures.upper_bound;
-}
+      out_after = run_ended looped.invariant c.loop-i-test.false c.fresh_domains.ensures refl named.ensures.out_after;
+      upper_bound = run_short looped.invariant named.ensures.upper_bound;
+    }

@@ -21,10 +21,10 @@ touched-requires c =
     let taken = sym c.takes.ensures ∙ c.if-takes.true in
     let member = sym c.has.ensures ∙ c.if-has.true in
     record {
-    sized = takes_sized c.args.ways c.args.map taken;
-    way_lt_ways = takes_way c.args.ways c.args.map taken c.ranges.map.fits c.args.way member;
-    way_value = member;
-}
+      sized = takes_sized c.args.ways c.args.map taken;
+      way_lt_ways = takes_way c.args.ways c.args.map taken c.ranges.map.fits c.args.way member;
+      way_value = member;
+    }
 
 pub returns : goal.returns
 unfolding touch_of

@@ -9,9 +9,9 @@ loop-set-init c = clean_begin c.args.g c.args.sweep c.args.block.now c.requires
 pub sweep_set-answer-requires : goal.sweep_set-answer-requires
 sweep_set-answer-requires c =
     record {
-    blocked = clean_blocked c.loop-set.invariant c.requires;
-    set_lt_sets = c.loop-set-test.true;
-}
+      blocked = clean_blocked c.loop-set.invariant c.requires;
+      set_lt_sets = c.loop-set-test.true;
+    }
 
 pub overflow_add-set : goal.overflow_add-set
 overflow_add-set c =

@@ -13,9 +13,9 @@ pub places_of-at-requires : goal.places_of-at-requires
 unfolding place_of
 places_of-at-requires c =
     record {
-    limited = c.requires.limited;
-    set_lt_sets = rw c.place_of-found.ensures (set_below c.args.g c.args.address c.requires.limited);
-}
+      limited = c.requires.limited;
+      set_lt_sets = rw c.place_of-found.ensures (set_below c.args.g c.args.address c.requires.limited);
+    }
 
 pub use_row-requires : goal.use_row-requires
 unfolding place_of

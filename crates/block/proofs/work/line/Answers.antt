@@ -12,9 +12,9 @@ pub put_own-requires : goal.put_own-requires
 put_own-requires c =
     let used = c.use_set-answer in
     record {
-    blocked = record { limited = c.requires.blocked.limited; long = used.auto.block ∙ c.requires.blocked.long };
-    d_bound = c.requires.d_bound;
-}
+      blocked = record { limited = c.requires.blocked.limited; long = used.auto.block ∙ c.requires.blocked.long };
+      d_bound = c.requires.d_bound;
+    }
 
 pub returns : goal.returns
 returns c =

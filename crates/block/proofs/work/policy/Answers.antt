@@ -12,9 +12,9 @@ returns-then-number-ne0 c =
 pub put_own-requires : goal.put_own-requires
 put_own-requires c =
     record {
-    blocked = record { limited = c.requires.blocked.limited; long = c.sweep_sets-swept.auto.block ∙ c.requires.blocked.long };
-    d_bound = c.requires.d_bound;
-}
+      blocked = record { limited = c.requires.blocked.limited; long = c.sweep_sets-swept.auto.block ∙ c.requires.blocked.long };
+      d_bound = c.requires.d_bound;
+    }
 
 pub returns : goal.returns
 returns c =

@@ -19,21 +19,21 @@ pub line-requires : goal.line-requires
 line-requires c =
     let a = c.args in
     record {
-    blocked = turn_blocked a.block.now a.answer a.d a.kind a.argument c.named-g.ensures c.fits-misfit.ensures
+      blocked = turn_blocked a.block.now a.answer a.d a.kind a.argument c.named-g.ensures c.fits-misfit.ensures
           c.if-misfit-ne0.false
           (λ i. (c.slice_known-1.given i).fits);
-    d_bound = c.if-d-ge16.false;
-}
+      d_bound = c.if-d-ge16.false;
+    }
 
 pub policy-requires : goal.policy-requires
 policy-requires c =
     let a = c.args in
     record {
-    blocked = turn_blocked a.block.now a.answer a.d a.kind a.argument c.named-g.ensures c.fits-misfit.ensures
+      blocked = turn_blocked a.block.now a.answer a.d a.kind a.argument c.named-g.ensures c.fits-misfit.ensures
           c.if-misfit-ne0.false
           (λ i. (c.slice_known-1.given i).fits);
-    d_bound = c.if-d-ge16.false;
-}
+      d_bound = c.if-d-ge16.false;
+    }
 
 pub returns-in-Line : goal.returns-in-Line
 returns-in-Line c =

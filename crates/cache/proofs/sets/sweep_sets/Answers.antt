@@ -14,9 +14,9 @@ loop-set-init c =
 pub sweep_set-answer-requires : goal.sweep_set-answer-requires
 sweep_set-answer-requires c =
     record {
-    shaped = c.loop-set.invariant.shaped;
-    set_lt_sets = c.loop-set-test.true;
-}
+      shaped = c.loop-set.invariant.shaped;
+      set_lt_sets = c.loop-set-test.true;
+    }
 
 pub overflow_add-set : goal.overflow_add-set
 overflow_add-set c =

@@ -30,15 +30,15 @@ pub returns-then-top-shift : goal.returns-then-top-shift
 returns-then-top-shift c =
     let l = c.loop-k in
     record {
-    formed_value = pass_high l.k l.invariant c.loop-k-test.false c.if-top-shift.true;
-    out_value = pass_put l.k l.invariant c.loop-k-test.false;
-}
+      formed_value = pass_high l.k l.invariant c.loop-k-test.false c.if-top-shift.true;
+      out_value = pass_put l.k l.invariant c.loop-k-test.false;
+    }
 
 pub returns : goal.returns
 returns c =
     let l = c.loop-k in
     let left = c.loop-k-test.false in
     record {
-    formed_value = pass_ways l.k l.invariant left c.all.ensures c.if-top-shift.false;
-    out_value = pass_put l.k l.invariant left;
-}
+      formed_value = pass_ways l.k l.invariant left c.all.ensures c.if-top-shift.false;
+      out_value = pass_put l.k l.invariant left;
+    }

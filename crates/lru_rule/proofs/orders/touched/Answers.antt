@@ -8,16 +8,16 @@ use Rattle.lru_rule.proofs.orders.touched.Goals as goal
 pub place_of-requires : goal.place_of-requires
 place_of-requires c =
     record {
-    sized = c.requires.sized;
-    order_bound = c.requires.order_bound;
-}
+      sized = c.requires.sized;
+      order_bound = c.requires.order_bound;
+    }
 
 pub lift-requires : goal.lift-requires
 lift-requires c =
     record {
-    k_bound = omega (arith, c.place_of.ensures, c.requires.order_bound, c.requires.sized.most);
-    way_bound = c.requires.way_bound;
-}
+      k_bound = omega (arith, c.place_of.ensures, c.requires.order_bound, c.requires.sized.most);
+      way_bound = c.requires.way_bound;
+    }
 
 pub returns : goal.returns
 returns c =

@@ -25,10 +25,10 @@ pub step-requires : goal.step-requires
 step-requires c =
     let said = c.replied-said in
     record {
-    word_len_bound = part_short said.result.0 said.ensures.short;
-    values_len_bound = part_short (numbers_of said.result) said.ensures.few;
-    at_in_bounds = c.requires;
-}
+      word_len_bound = part_short said.result.0 said.ensures.short;
+      values_len_bound = part_short (numbers_of said.result) said.ensures.few;
+      at_in_bounds = c.requires;
+    }
 
 pub shape_of-out : goal.shape_of-out
 shape_of-out c = c.step.auto.out
@@ -39,6 +39,6 @@ returns c =
     let said = c.replied-said in
     let given = c.args in
     record {
-    out_after = said_line given.place (written_of given.at given.out.now) said.ensures stepped.ensures.out_after;
-    upper_bound = stepped.ensures.upper_bound;
-}
+      out_after = said_line given.place (written_of given.at given.out.now) said.ensures stepped.ensures.out_after;
+      upper_bound = stepped.ensures.upper_bound;
+    }

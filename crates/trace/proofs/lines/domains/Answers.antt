@@ -25,6 +25,6 @@ shape_of-out c = c.loop-d.invariant.long
 pub returns : goal.returns
 returns c =
     record {
-    out_after = name_end c.loop-d.invariant c.loop-d-test.false;
-    upper_bound = name_short c.loop-d.invariant;
-}
+      out_after = name_end c.loop-d.invariant c.loop-d-test.false;
+      upper_bound = name_short c.loop-d.invariant;
+    }

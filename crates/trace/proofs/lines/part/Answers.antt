@@ -8,17 +8,17 @@ pub returns-then-read-eq0 : goal.returns-then-read-eq0
 returns-then-read-eq0 c =
     let given = c.args in
     record {
-    out_after = part_none given.ways given.number given.own (written_of given.at given.out.now)
+      out_after = part_none given.ways given.number given.own (written_of given.at given.out.now)
           c.as_read-read.ensures c.if-read-eq0.true;
-    upper_bound = omega arith;
-}
+      upper_bound = omega arith;
+    }
 
 pub returns : goal.returns
 returns c =
     let given = c.args in
     let named = c.domain in
     record {
-    out_after = part_some given.ways given.number given.own (written_of given.at given.out.now)
+      out_after = part_some given.ways given.number given.own (written_of given.at given.out.now)
           c.as_read-read.ensures c.if-read-eq0.false named.ensures.out_after;
-    upper_bound = named.ensures.upper_bound;
-}
+      upper_bound = named.ensures.upper_bound;
+    }

@@ -12,7 +12,7 @@ returns c =
     let number = c.number-next in
     let told = c.told in
     record {
-    out_after = step_is given.place given.word.now (map decimal given.values.now) (written_of given.at given.out.now)
+      out_after = step_is given.place given.word.now (map decimal given.values.now) (written_of given.at given.out.now)
           number.ensures.out_after told.ensures.out_after;
-    upper_bound = omega (arith, told.ensures.upper_bound, number.ensures.upper_bound, c.requires);
-}
+      upper_bound = omega (arith, told.ensures.upper_bound, number.ensures.upper_bound, c.requires);
+    }

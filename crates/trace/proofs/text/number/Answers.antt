@@ -14,9 +14,9 @@ pub returns-then-n-lt10 : goal.returns-then-n-lt10
 returns-then-n-lt10 c =
     let given = c.args in
     record {
-    out_after = digit_put given.at given.n given.end given.out.now c.if-n-lt10.true;
-    upper_bound = omega arith;
-}
+      out_after = digit_put given.at given.n given.end given.out.now c.if-n-lt10.true;
+      upper_bound = omega arith;
+    }
 
 pub put-next-requires : goal.put-next-requires
 put-next-requires c =
@@ -45,7 +45,7 @@ returns c =
     let few = few_digits c.args.n spelled.result c.ranges.n spelled.ensures.len in
     let put = c.put-next in
     record {
-    out_after = number_is (written_of c.args.at c.args.out.now) c.args.end few spelled.ensures.len
+      out_after = number_is (written_of c.args.at c.args.out.now) c.args.end few spelled.ensures.len
           spelled.ensures.digits put.ensures.out_after;
-    upper_bound = number_short c.args.at few spelled.ensures.in_bounds.1 c.requires put.ensures.value;
-}
+      upper_bound = number_short c.args.at few spelled.ensures.in_bounds.1 c.requires put.ensures.value;
+    }

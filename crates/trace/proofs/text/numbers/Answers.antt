@@ -28,6 +28,6 @@ shape_of-out c = c.loop-i.invariant.long
 pub returns : goal.returns
 returns c =
     record {
-    out_after = line_end c.loop-i.invariant c.loop-i-test.false;
-    upper_bound = line_short c.loop-i.invariant;
-}
+      out_after = line_end c.loop-i.invariant c.loop-i-test.false;
+      upper_bound = line_short c.loop-i.invariant;
+    }

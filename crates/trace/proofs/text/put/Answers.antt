@@ -29,6 +29,6 @@ shape_of-out c = c.loop-i.invariant.long
 pub returns : goal.returns
 returns c =
     record {
-    out_after = put_end c.loop-i.invariant c.loop-i-test.false;
-    value = refl;
-}
+      out_after = put_end c.loop-i.invariant c.loop-i-test.false;
+      value = refl;
+    }

@@ -41,7 +41,7 @@ returns c =
     let count = length c.args.values.now in
     let numbers = c.numbers in
     record {
-    out_after = told_is c.args.word.now c.args.values.now (written_of c.args.at c.args.out.now)
+      out_after = told_is c.args.word.now c.args.values.now (written_of c.args.at c.args.out.now)
           put.ensures.out_after c.end_of.ensures numbers.ensures.out_after;
-    upper_bound = told_short c.args.at word count put.ensures.value put.auto.out c.requires numbers.ensures.upper_bound;
-}
+      upper_bound = told_short c.args.at word count put.ensures.value put.auto.out c.requires numbers.ensures.upper_bound;
+    }

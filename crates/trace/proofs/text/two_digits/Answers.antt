@@ -18,6 +18,6 @@ pub returns : goal.returns
 returns c =
     let given = c.args in
     record {
-    out_after = two_put given.at given.n given.end given.out.now c.requires.le_n c.requires.n_bound;
-    upper_bound = omega arith;
-}
+      out_after = two_put given.at given.n given.end given.out.now c.requires.le_n c.requires.n_bound;
+      upper_bound = omega arith;
+    }

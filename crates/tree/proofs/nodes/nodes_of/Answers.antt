@@ -9,16 +9,16 @@ loop-count-init c = begin c.args.ways c.args.map c.requires.sized c.requires.map
 pub raised-free-requires : goal.raised-free-requires
 raised-free-requires c =
     record {
-    x_bound = rw (c.evens-low.ensures, c.evens-high.ensures) (both_lt c.loop-count.held);
-    at_bound = omega arith;
-}
+      x_bound = rw (c.evens-low.ensures, c.evens-high.ensures) (both_lt c.loop-count.held);
+      at_bound = omega arith;
+    }
 
 pub raised-right-requires : goal.raised-right-requires
 raised-right-requires c =
     record {
-    x_bound = rw (c.evens-low.ensures, c.evens-high.ensures) (right_only_lt c.loop-count.held);
-    at_bound = omega arith;
-}
+      x_bound = rw (c.evens-low.ensures, c.evens-high.ensures) (right_only_lt c.loop-count.held);
+      at_bound = omega arith;
+    }
 
 pub loop-count-preserved : goal.loop-count-preserved
 loop-count-preserved c =

@@ -10,18 +10,18 @@ pub turned-next-requires : goal.turned-next-requires
 turned-next-requires c =
     let l = c.loop-size.invariant in
     record {
-    half_bound = middle_lt l c.loop-size-test.true c.requires.sized.most c.requires.way_lt_ways c.requires.way_value;
-    node_bound = node_lt l c.loop-size-test.true c.requires.sized.most c.requires.way_lt_ways c.requires.way_value;
-}
+      half_bound = middle_lt l c.loop-size-test.true c.requires.sized.most c.requires.way_lt_ways c.requires.way_value;
+      node_bound = node_lt l c.loop-size-test.true c.requires.sized.most c.requires.way_lt_ways c.requires.way_value;
+    }
 
 pub below-at-requires : goal.below-at-requires
 below-at-requires c =
     let l = c.loop-size.invariant in
     let more = c.loop-size-test.true in
     record {
-    half_bound = middle_lt l more c.requires.sized.most c.requires.way_lt_ways c.requires.way_value;
-    node_bound = node_lt l more c.requires.sized.most c.requires.way_lt_ways c.requires.way_value;
-}
+      half_bound = middle_lt l more c.requires.sized.most c.requires.way_lt_ways c.requires.way_value;
+      node_bound = node_lt l more c.requires.sized.most c.requires.way_lt_ways c.requires.way_value;
+    }
 
 pub loop-size-smaller : goal.loop-size-smaller
 loop-size-smaller c = omega (arith, c.loop-size-test.true)

@@ -17,9 +17,9 @@ returns-then-overflows c = rw (
 pub sharing_refusal-requires : goal.sharing_refusal-requires
 sharing_refusal-requires c =
     record {
-    rule_value = c.requires;
-    argument_value = sym c.bad_argument.ensures ∙ c.if-bad_argument.false;
-}
+      rule_value = c.requires;
+      argument_value = sym c.bad_argument.ensures ∙ c.if-bad_argument.false;
+    }
 
 pub returns : goal.returns
 unfolding policy_refusal

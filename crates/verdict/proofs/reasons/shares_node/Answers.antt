@@ -11,10 +11,10 @@ loop-e-init c = passed_none _ _
 pub has_node-requires : goal.has_node-requires
 has_node-requires c =
     record {
-    rule_value = c.requires.rule_value;
-    fill_value = c.requires.fill_value;
-    e_bound = c.loop-e-test.true;
-}
+      rule_value = c.requires.rule_value;
+      fill_value = c.requires.fill_value;
+      e_bound = c.loop-e-test.true;
+    }
 
 pub returns-then-has_node : goal.returns-then-has_node
 unfolding shares_node

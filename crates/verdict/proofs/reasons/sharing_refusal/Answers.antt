@@ -17,9 +17,9 @@ returns-then-shares_way c = rw (← c.new_maps-new.ensures, sym c.shares_way.ens
 pub shares_node-requires : goal.shares_node-requires
 shares_node-requires c =
     record {
-    rule_value = c.requires.rule_value;
-    fill_value = rw c.new_maps-new.ensures (good_fill c.args.g.ways c.args.argument c.requires.argument_value);
-}
+      rule_value = c.requires.rule_value;
+      fill_value = rw c.new_maps-new.ensures (good_fill c.args.g.ways c.args.argument c.requires.argument_value);
+    }
 
 pub returns-then-shares_node : goal.returns-then-shares_node
 unfolding sharing_refusal
