@@ -1,4 +1,4 @@
-// A cache in one lent block of bytes, for testbenches in C.
+// A cache in one lent block of bytes, for testbenches in C. The crate `block_c` exports these calls under the same names.
 #![tactic(auto)]
 
 mod head;
@@ -17,8 +17,7 @@ ghost use Rattle.block.specs.Block.{made_of, fresh_call, state_after, stepped_of
 use geometry::Geometry;
 
 // Makes a fresh block of given sets, ways and rule. The answer is 0, or the number of the refusal, and then the block is as it was.
-#[unsafe(no_mangle)]
-pub extern "C" fn dipperlock_fresh(block: &mut [u8], sets: u64, ways: u64, rule: u64) -> u64
+pub fn dipperlock_fresh(block: &mut [u8], sets: u64, ways: u64, rule: u64) -> u64
     ensures { made_of result block.new ≡ fresh_call (record { sets = sets; ways = ways; rule = rule }) block.old }
 {
     let g = Geometry {
@@ -36,8 +35,7 @@ pub extern "C" fn dipperlock_fresh(block: &mut [u8], sets: u64, ways: u64, rule:
 
 // One step of kind and argument by a domain. The answer is 0, or the number of the refusal, and then the block is as it was. A lent answer of 32
 // bytes is filled in any case, one of another length is not written. Read as tables and domains, the block is what the step on tables leaves.
-#[unsafe(no_mangle)]
-pub extern "C" fn dipperlock_step(
+pub fn dipperlock_step(
     block: &mut [u8],
     domain: u64,
     kind: u64,

@@ -1,0 +1,32 @@
+// What C calls: the calls of `block` under their names.
+#![tactic(auto)]
+
+ghost use Rattle.std.specs.Prelude.{◌≡◌, length};
+ghost use Rattle.geometry.specs.Named.{geometry_of};
+ghost use Rattle.block.specs.Layout.{state_of};
+ghost use Rattle.block.specs.Block.{made_of, fresh_call, state_after, stepped_of, step_call};
+
+// Makes a fresh block of given sets, ways and rule. The answer is 0, or the number of the refusal, and then the block is as it was.
+#[unsafe(no_mangle)]
+pub extern "C" fn dipperlock_fresh(block: &mut [u8], sets: u64, ways: u64, rule: u64) -> u64
+    ensures { made_of result block.new ≡ fresh_call (record { sets = sets; ways = ways; rule = rule }) block.old }
+{
+    block::dipperlock_fresh(block, sets, ways, rule)
+}
+
+// One step of kind and argument by a domain. The answer is 0, or the number of the refusal, and then the block is as it was. A lent answer of 32
+// bytes is filled in any case, one of another length is not written. Read as tables and domains, the block is what the step on tables leaves.
+#[unsafe(no_mangle)]
+pub extern "C" fn dipperlock_step(
+    block: &mut [u8],
+    domain: u64,
+    kind: u64,
+    argument: u64,
+    answer: &mut [u8],
+) -> u64
+    ensures answer_after { stepped_of result block.new answer.new ≡ step_call block.old answer.old domain kind argument }
+    ensures block_after { state_of (geometry_of block.new) block.new
+        ≡ state_after block.old (length answer.old) domain kind argument }
+{
+    block::dipperlock_step(block, domain, kind, argument, answer)
+}
