@@ -1,4 +1,5 @@
 -- The laws that the crates above cite.
+pub mod Locals
 pub mod TurnLaws
 pub mod StepLaws
 pub mod OtherLaws
