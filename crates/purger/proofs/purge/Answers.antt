@@ -6,9 +6,9 @@ use Rattle.purger.proofs.purge.Goals as goal
 pub split-requires : goal.split-requires
 split-requires c =
     record {
-    n_in_bounds = c.requires.n_in_bounds;
-    n_in_bounds_2 = c.requires.n_in_bounds_2;
-}
+      n_in_bounds = c.requires.n_in_bounds;
+      n_in_bounds_2 = c.requires.n_in_bounds_2;
+    }
 
 pub shape_of-codes-then-n-count : goal.shape_of-codes-then-n-count
 shape_of-codes-then-n-count c = c.split.auto.codes
@@ -28,9 +28,9 @@ show-requires c =
     let kept = c.purge_trace-purged.auto.1.1.1 in
     let room = c.requires.1.1 in
     record {
-    count_in_bounds = le_trans few (le_trans room.0 (le_of_eq (sym kept.0)));
-    count_in_bounds_2 = le_trans few (le_trans room.1 (le_of_eq (sym kept.1.0)));
-}
+      count_in_bounds = le_trans few (le_trans room.0 (le_of_eq (sym kept.0)));
+      count_in_bounds_2 = le_trans few (le_trans room.1 (le_of_eq (sym kept.1.0)));
+    }
 
 pub shape_of-codes : goal.shape_of-codes
 shape_of-codes c =

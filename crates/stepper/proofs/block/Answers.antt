@@ -29,9 +29,9 @@ shape_of-out-then-i-n c = c.show-shown.auto.out
 pub take-requires : goal.take-requires
 take-requires c =
     record {
-    small = c.requires.small;
-    rows = c.requires.rows;
-}
+      small = c.requires.small;
+      rows = c.requires.rows;
+    }
 
 pub shape_of-tags : goal.shape_of-tags
 shape_of-tags c = c.take.auto.tags

@@ -12,17 +12,16 @@ pub loop-set-init : goal.loop-set-init
 loop-set-init c = record { inside = c.requires.from_le_to; behind = le-add_right _ _; long = refl }
 
 pub put_row-next-requires : goal.put_row-next-requires
-put_row-next-requires c =
+put_row-next-requires c = (
+  rows_below (add-one-le c.loop-set-test.true) c.requires.rows,
+  (
+    lt_of_lt_of_le c.loop-set-test.true c.requires.to_le_max_file_sets,
     (
-      rows_below (add-one-le c.loop-set-test.true) c.requires.rows,
-      (
-        lt_of_lt_of_le c.loop-set-test.true c.requires.to_le_max_file_sets,
-        (
-          c.requires.ways_bound,
-          row_room c.loop-set.invariant c.loop-set-test.true c.requires.to_le_max_file_sets c.requires.max_file_sets_in_bounds,
-        ),
-      ),
-    )
+      c.requires.ways_bound,
+      row_room c.loop-set.invariant c.loop-set-test.true c.requires.to_le_max_file_sets c.requires.max_file_sets_in_bounds,
+    ),
+  ),
+)
 
 pub overflow_add-set : goal.overflow_add-set
 overflow_add-set c =
