@@ -10,7 +10,7 @@ ghost use Rattle.geometry.specs.Geometry.{max_sets};
 use cache::Stepped;
 use command::{Answer, Command};
 use geometry::{Geometry, MAX_SETS};
-use libc::STDOUT_FILENO;
+use std::io::{Stdin, Stdout};
 use trace::TAGS;
 
 // How many bytes the first line has.
@@ -28,17 +28,17 @@ fn line_length(text: &[u8]) -> usize
 }
 
 // Writes a text, or its first line alone.
-fn put(text: &[u8], whole: bool) {
+fn put(stdout: &mut Stdout, text: &[u8], whole: bool) {
     if whole {
-        io::write_all(STDOUT_FILENO, text);
+        streams::write_all(stdout, text);
         return;
     }
     let n = line_length(text);
-    io::write_all(STDOUT_FILENO, &text[..n]);
+    streams::write_all(stdout, &text[..n]);
 }
 
 // Writes the listing of a file, or its first line alone.
-fn show(file: &[u8], whole: bool) {
+fn show(stdout: &mut Stdout, file: &[u8], whole: bool) {
     let mut tags = [0u64; TAGS];
     let mut valid = [0u16; tracefile::MAX_SETS];
     let mut dirty = [0u16; tracefile::MAX_SETS];
@@ -47,12 +47,13 @@ fn show(file: &[u8], whole: bool) {
     let length = trace::list(
         file, &mut tags, &mut valid, &mut dirty, &mut words, &mut out,
     );
-    put(&out[..length], whole);
+    put(stdout, &out[..length], whole);
 }
 
 // "1 set, 4 ways, rule 0, 9 steps": eight bytes of header, nine codes of two bytes, nine arguments of eight.
-fn case_a() {
+fn case_a(stdout: &mut Stdout) {
     show(
+        stdout,
         b"\x01\0\x04\0\x09\0\0\0\
           \0\x10\x01\x10\0\x02\0\x01\x01\x01\0\x01\0\x03\x02\x01\0\x01\
           \x03\0\x03\0\0\0\0\0\x0c\0\x0c\0\0\0\0\0\0\0\0\0\0\0\0\0\
@@ -63,26 +64,26 @@ fn case_a() {
 }
 
 // Writes a space and a number.
-fn put_field(n: usize) {
-    io::write_all(STDOUT_FILENO, b" ");
-    io::print_decimal(STDOUT_FILENO, n as u64);
+fn put_field(stdout: &mut Stdout, n: usize) {
+    streams::write_all(stdout, b" ");
+    streams::print_decimal(stdout, n as u64);
 }
 
 // Writes the answer to a change of policy, and the line's end.
-fn put_answer(answer: Answer) {
+fn put_answer(stdout: &mut Stdout, answer: Answer) {
     match answer {
         Answer::Policy { dropped, dirty } => {
-            io::write_all(STDOUT_FILENO, b"policy");
-            put_field(dropped);
-            put_field(dirty);
+            streams::write_all(stdout, b"policy");
+            put_field(stdout, dropped);
+            put_field(stdout, dirty);
         }
         Answer::Refused(number) => {
-            io::write_all(STDOUT_FILENO, b"refused");
-            put_field(number);
+            streams::write_all(stdout, b"refused");
+            put_field(stdout, number);
         }
         _ => {}
     }
-    io::write_all(STDOUT_FILENO, b"\n");
+    streams::write_all(stdout, b"\n");
 }
 
 // How many of the named sets there is room for.
@@ -97,7 +98,7 @@ fn lent(sets: usize) -> usize
 
 // Calls for a change of policy, by which domain 0 takes way 0 of a fresh cache of 2 ways under rule 0, and writes the number of sets and the
 // answer. As many sets are lent, or all that there may be.
-fn call(sets: usize) {
+fn call(stdout: &mut Stdout, sets: usize) {
     let mut tags = [0u64; 2 * MAX_SETS];
     let mut valid = [0u16; MAX_SETS];
     let mut dirty = [0u16; MAX_SETS];
@@ -120,14 +121,15 @@ fn call(sets: usize) {
         0x10001,
     );
     let answer = stepped.answer;
-    io::print_decimal(STDOUT_FILENO, sets as u64);
-    io::write_all(STDOUT_FILENO, b" ");
-    put_answer(answer);
+    streams::print_decimal(stdout, sets as u64);
+    streams::write_all(stdout, b" ");
+    put_answer(stdout, answer);
 }
 
 // Lists a file without steps that names so many sets of 2 ways.
-fn naming(sets: u16) {
+fn naming(stdout: &mut Stdout, sets: u16) {
     show(
+        stdout,
         &[(sets % 256) as u8, (sets / 256) as u8, 2, 0, 0, 0, 0, 0],
         true,
     );
@@ -135,21 +137,22 @@ fn naming(sets: u16) {
 
 // "4,096 stands, 257 and 8,192 are refused 1 by a call, and a file naming 257 is refused 10". So are others that name more than 256
 // sets; those that name 0 or 3 are refused 1.
-fn case_j() {
-    call(4096);
-    call(257);
-    call(8192);
-    naming(256);
-    naming(257);
-    naming(512);
-    naming(4096);
-    naming(0);
-    naming(3);
+fn case_j(stdout: &mut Stdout) {
+    call(stdout, 4096);
+    call(stdout, 257);
+    call(stdout, 8192);
+    naming(stdout, 256);
+    naming(stdout, 257);
+    naming(stdout, 512);
+    naming(stdout, 4096);
+    naming(stdout, 0);
+    naming(stdout, 3);
 }
 
 // "domain 15 stands, 16 is refused 3": each takes way 0.
-fn case_k() {
+fn case_k(stdout: &mut Stdout) {
     show(
+        stdout,
         &[
             1u8, 0, 2, 0, 2, 0, 0, 0, 15, 16, 16, 16, 1, 0, 1, 0, 0, 0, 0, 0, 1, 0, 1, 0, 0, 0, 0,
             0,
@@ -159,20 +162,21 @@ fn case_k() {
 }
 
 // "4,096 steps stand, 4,097 are refused 10"
-fn case_l() {
+fn case_l(stdout: &mut Stdout) {
     let mut file = [0u8; 40978];
     file[0] = 1;
     file[2] = 2;
     file[5] = 16;
-    show(&file[..40968], false);
+    show(stdout, &file[..40968], false);
     file[4] = 1;
-    show(&file, false);
+    show(stdout, &file, false);
 }
 
 // 1 set, 4 ways, 7 steps: domain 0 takes all ways, loads lines 0 to 3, line 0 again, and line 4. Under rule 2 that evicts line 1, which was
 // used longest ago; Tree-PLRU evicts line 2 and NRU line 0. Rule 2 stands, 3 is refused 1.
-fn true_lru() {
+fn true_lru(stdout: &mut Stdout) {
     show(
+        stdout,
         b"\x01\0\x04\x02\x07\0\0\0\
           \0\x10\0\x01\0\x01\0\x01\0\x01\0\x01\0\x01\
           \x0f\0\x0f\0\0\0\0\0\0\0\0\0\0\0\0\0\x40\0\0\0\0\0\0\0\
@@ -180,7 +184,7 @@ fn true_lru() {
           \0\x01\0\0\0\0\0\0",
         true,
     );
-    show(&[1u8, 0, 4, 3, 0, 0, 0, 0], true);
+    show(stdout, &[1u8, 0, 4, 3, 0, 0, 0, 0], true);
 }
 
 // Call i of domain 0 on the most lines that there may be: it takes all ways, stores to each line, and is removed.
@@ -240,12 +244,12 @@ fn calls(
 }
 
 // 4,096 sets of 16 ways: the removal drops 65,536 lines, all dirty.
-fn every_line() {
+fn every_line(stdout: &mut Stdout) {
     let mut tags = [0u64; 16 * MAX_SETS];
     let mut valid = [0u16; MAX_SETS];
     let mut dirty = [0u16; MAX_SETS];
     let mut words = [0u64; MAX_SETS];
-    put_answer(calls(&mut tags, &mut valid, &mut dirty, &mut words));
+    put_answer(stdout, calls(&mut tags, &mut valid, &mut dirty, &mut words));
 }
 
 // Files of ours, beside the cases on lent states in specs/. 1 set, 2 ways, 13 steps: domain 0 takes both ways; kinds 4, 17, 36, 41 and 255 are
@@ -253,8 +257,9 @@ fn every_line() {
 // for core 32; so core 0 still loads for domain 0.
 // Then 4 ways. Under rule 0, 7 steps: beside maps 5 and 5, maps 7 and 7 are 8, which comes before 9, and maps 10 and 10 are 9; beside hit map 5 with
 // fill map 1 these stand. Arguments 2^32 and 2^63 + 0x30003 are 5. Under rule 1, 2 steps: maps 5 and 10 stand.
-fn numbers() {
+fn numbers(stdout: &mut Stdout) {
     show(
+        stdout,
         b"\x01\0\x02\0\x0d\0\0\0\
           \0\x10\0\x04\0\x11\0\x24\0\x29\0\xff\x10\x11\x10\x24\x20\x24\0\x28\0\x28\x20\x28\
           \0\x21\
@@ -265,6 +270,7 @@ fn numbers() {
         true,
     );
     show(
+        stdout,
         b"\x01\0\x04\0\x07\0\0\0\
           \x01\x10\0\x10\0\x10\x01\x10\0\x10\0\x10\0\x10\
           \x05\0\x05\0\0\0\0\0\x07\0\x07\0\0\0\0\0\x0a\0\x0a\0\0\0\0\0\x05\0\x01\0\0\0\0\0\
@@ -272,6 +278,7 @@ fn numbers() {
         true,
     );
     show(
+        stdout,
         b"\x01\0\x04\x01\x02\0\0\0\
           \0\x10\x01\x10\
           \x05\0\x05\0\0\0\0\0\x0a\0\x0a\0\0\0\0\0",
@@ -283,8 +290,9 @@ fn numbers() {
 // flushed from way 3 and line 1 hit in way 2, both locked; line 4 evicts line 2 from way 1, though way 3 is empty.
 // Then 16 ways, 8 steps: domain 0 takes ways 0, 5, 10 and 15, with free nodes 0, 1 and 2, and loads lines 0 to 3, so that each of them points right; a
 // hit in way 15 turns nodes 0 and 2 left. The next evictions take way 5, by nodes 0 and 1, and way 10, by nodes 0 and 2.
-fn lines() {
+fn lines(stdout: &mut Stdout) {
     show(
+        stdout,
         b"\x01\0\x04\0\x09\0\0\0\
           \0\x10\0\x02\0\x01\0\x01\0\x01\0\x10\0\x03\0\x01\0\x01\
           \x0f\0\x0f\0\0\0\0\0\0\0\0\0\0\0\0\0\x40\0\0\0\0\0\0\0\x80\0\0\0\0\0\0\0\
@@ -293,6 +301,7 @@ fn lines() {
         true,
     );
     show(
+        stdout,
         b"\x01\0\x10\0\x08\0\0\0\
           \0\x10\0\x01\0\x01\0\x01\0\x01\0\x01\0\x01\0\x01\
           \x21\x84\x21\x84\0\0\0\0\0\0\0\0\0\0\0\0\x40\0\0\0\0\0\0\0\x80\0\0\0\0\0\0\0\
@@ -302,30 +311,31 @@ fn lines() {
 }
 
 // A file of 4,096 steps, and one byte more.
-fn longer() {
+fn longer(stdin: &mut Stdin, stdout: &mut Stdout) {
     let mut file = [0u8; 40969];
-    let got = streams::read_file(&mut file);
+    let got = streams::read_file(stdin, &mut file);
     let count = got.count;
-    show(&file[..count], true);
+    show(stdout, &file[..count], true);
 }
 
-fn main() {
-    io::write_all(STDOUT_FILENO, b"case A\n");
-    case_a();
-    io::write_all(STDOUT_FILENO, b"case J\n");
-    case_j();
-    io::write_all(STDOUT_FILENO, b"case K\n");
-    case_k();
-    io::write_all(STDOUT_FILENO, b"case L\n");
-    case_l();
-    io::write_all(STDOUT_FILENO, b"true LRU\n");
-    true_lru();
-    io::write_all(STDOUT_FILENO, b"kinds, and numbers 5, 8 and 9\n");
-    numbers();
-    io::write_all(STDOUT_FILENO, b"locked lines, and sixteen ways\n");
-    lines();
-    io::write_all(STDOUT_FILENO, b"every line dropped\n");
-    every_line();
-    io::write_all(STDOUT_FILENO, b"one byte more than the longest\n");
-    longer();
+fn main(rt: HostRuntime) {
+    let stdout = &mut rt.stdout();
+    streams::write_all(stdout, b"case A\n");
+    case_a(stdout);
+    streams::write_all(stdout, b"case J\n");
+    case_j(stdout);
+    streams::write_all(stdout, b"case K\n");
+    case_k(stdout);
+    streams::write_all(stdout, b"case L\n");
+    case_l(stdout);
+    streams::write_all(stdout, b"true LRU\n");
+    true_lru(stdout);
+    streams::write_all(stdout, b"kinds, and numbers 5, 8 and 9\n");
+    numbers(stdout);
+    streams::write_all(stdout, b"locked lines, and sixteen ways\n");
+    lines(stdout);
+    streams::write_all(stdout, b"every line dropped\n");
+    every_line(stdout);
+    streams::write_all(stdout, b"one byte more than the longest\n");
+    longer(&mut rt.stdin(), stdout);
 }

@@ -21,7 +21,16 @@ use Rattle.script.proofs.numbers_of.Reads as ScriptNumbersOf
 use Rattle.script.specs.Script.{line_after, numbers_of}
 use Rattle.runs.specs.Runs.{put_run, read_run}
 use Rattle.steps.specs.Step.{tables_of}
+use Rattle.std.proofs.Common.{ℕ, [], min, take, decimal, IfSome, IsTrue, subst}
+use Rattle.std.specs.Io.{StartsWith}
+use Rattle.std.specs.Io.KnownBytes.{Appends, IsAtEnd}
+use Rattle.std.specs.declared.env.Env as Env
+use Rattle.std.specs.declared.io.traits.Read as Read
+use Rattle.std.specs.declared.io.traits.Write as Write
+use Rattle.streams.proofs.arg.Reads as StreamsArg
+use Rattle.streams.proofs.print_decimal.Reads as StreamsPrintDecimal
 use Rattle.streams.proofs.read_file.Reads as StreamsReadFile
+use Rattle.streams.proofs.write_all.Reads as StreamsWriteAll
 use Rattle.trace.proofs.list.Reads as TraceList
 use Rattle.trace.specs.Calls.{list_of, listed_of}
 use Rattle.tracefile.proofs.command_at.Reads as TracefileCommandAt
@@ -29,8 +38,12 @@ use Rattle.tracefile.proofs.refusal.Reads as TracefileRefusal
 use Rattle.tracefile.proofs.steps.Reads as TracefileSteps
 use Rattle.tracefile.specs.File.{command_at, file_refusal, step_count}
 use Prim.Native.Nat.{◌≤◌}
+use denote.Param.Laws.{Laws}
+use denote.RattleType.{RattleType}
 use lib.ListN.{length}
+use mathlib.Core.List.{List, Mem, not-mem-nil}
 use mathlib.Core.Path.{◌≡◌}
+use mir.Syntax.{Dict}
 
 -- ---- `endian`
 
@@ -90,10 +103,37 @@ runs_put_u64s : Held RunsPutU64s.Asked RunsPutU64s.Learnt
     bytes'.now ≡ put_run at 8 numbers.now bytes.now)
 runs_put_u64s = exactly
 
--- ---- `streams`
+-- ---- `streams`, of any reader, writer or handle that borrows nothing: all that is asked of one that borrows is that its loans last
 
-streams_read_file : Held StreamsReadFile.Asked StreamsReadFile.Learnt (λ κs a r e. let file' = e.0 in IsPrefixLen r.count file'.now)
-streams_read_file = exactly
+lasts : {P : Type 0} (loans : List ℕ) → loans ≡ [] → (κ : ℕ) → Mem κ loans → P
+lasts loans none κ m = absurd (not-mem-nil (subst (Mem κ) none m))
+
+module _ (T : RattleType) (none : T.lives ≡ []) (laws : Laws T) (dict : Dict) where
+  streams_read_file : (its : Read.Ghosts T.Denot) → Held (StreamsReadFile.Asked T laws its dict) (StreamsReadFile.Learnt T laws its dict)
+      (λ κs a r e.
+      let input = a.0 in let input' = e.0 in let file' = e.1.0 in
+      (IsPrefixLen r.count file'.now)
+      × ((IfSome (its.remaining input.now) (λ bytes. StartsWith bytes (take r.count file'.now)))
+      × ((IsTrue r.whole → IfSome (its.remaining input.now) (λ bytes. r.count ≡ min (length bytes) 40969))
+      × (IsTrue r.whole → IsAtEnd (its.remaining input'.now)))))
+  streams_read_file its = record { asks_nothing = λ κs a κ m. lasts T.lives none κ m; settles = λ κs a r e h. h }
+
+  streams_write_all : (its : Write.Ghosts T.Denot) → Held (StreamsWriteAll.Asked T laws its dict) (StreamsWriteAll.Learnt T laws its dict)
+      (λ κs a r e.
+      let output = a.0 in let output' = e.0 in let bytes = a.1.0 in
+      (IsTrue r → Appends (its.contents output.now) (its.contents output'.now) bytes.now)
+      × ((n : ℕ) × Appends (its.contents output.now) (its.contents output'.now) (take n bytes.now)))
+  streams_write_all its = record { asks_nothing = λ κs a κ m. lasts T.lives none κ m; settles = λ κs a r e h. h }
+
+  streams_print_decimal : (its : Write.Ghosts T.Denot) → Held (StreamsPrintDecimal.Asked T laws its dict) (StreamsPrintDecimal.Learnt T laws its dict)
+      (λ κs a r e.
+      let output = a.0 in let output' = e.0 in let n = a.1.0 in
+      IsTrue r → Appends (its.contents output.now) (its.contents output'.now) (decimal n))
+  streams_print_decimal its = record { asks_nothing = λ κs a κ m. lasts T.lives none κ m; settles = λ κs a r e h. h }
+
+  streams_arg : (its : Env.Ghosts T.Denot) → Held (StreamsArg.Asked T laws its dict) (StreamsArg.Learnt T laws its dict)
+      (λ κs a r e. let buf' = e.1.1.0 in IsPrefixLen r buf'.now)
+  streams_arg its = record { asks_nothing = λ κs a κ m. lasts T.lives none κ m; settles = λ κs a r e h. h }
 
 -- ---- `script`
 

@@ -17,8 +17,8 @@ use command::Answer;
 use cores::{Reply, Stepped};
 use domains::Domains;
 use geometry::Geometry;
-use libc::STDOUT_FILENO;
 use selectors::Core;
+use std::io::Stdout;
 
 // What a step gives, and the records after it.
 #[derive(Clone, Copy)]
@@ -64,20 +64,20 @@ fn lend(
 
 // ---- Writing
 
-fn show_field(n: u64) {
-    io::write_all(STDOUT_FILENO, b" ");
-    io::print_decimal(STDOUT_FILENO, n);
+fn show_field(stdout: &mut Stdout, n: u64) {
+    streams::write_all(stdout, b" ");
+    streams::print_decimal(stdout, n);
 }
 
-fn show_fields(first: u64, second: u64, third: u64) {
-    show_field(first);
-    show_field(second);
-    show_field(third);
+fn show_fields(stdout: &mut Stdout, first: u64, second: u64, third: u64) {
+    show_field(stdout, first);
+    show_field(stdout, second);
+    show_field(stdout, third);
 }
 
 // An answer's word and three fields.
-fn show_answer(answer: Answer) {
-    io::write_all(STDOUT_FILENO, b"=");
+fn show_answer(stdout: &mut Stdout, answer: Answer) {
+    streams::write_all(stdout, b"=");
     let fields = match answer {
         Answer::Hit(way) => [0, way as u64, 0, 0],
         Answer::Fill(way) => [1, way as u64, 0, 0],
@@ -88,22 +88,22 @@ fn show_answer(answer: Answer) {
         Answer::Policy { dropped, dirty } => [6, dropped as u64, dirty as u64, 0],
         Answer::Refused(number) => [7, number as u64, 0, 0],
     };
-    show_field(fields[0]);
-    show_fields(fields[1], fields[2], fields[3]);
+    show_field(stdout, fields[0]);
+    show_fields(stdout, fields[1], fields[2], fields[3]);
 }
 
-fn show_reply(reply: Reply) {
+fn show_reply(stdout: &mut Stdout, reply: Reply) {
     match reply {
-        Reply::Cache(answer) => show_answer(answer),
+        Reply::Cache(answer) => show_answer(stdout, answer),
         Reply::Select(core) => {
-            io::write_all(STDOUT_FILENO, b"= 8");
-            show_fields(core.cs as u64, core.ds as u64, core.es as u64);
+            streams::write_all(stdout, b"= 8");
+            show_fields(stdout, core.cs as u64, core.ds as u64, core.es as u64);
         }
     }
 }
 
 // A record, if it is not as it was.
-fn show_core(place: usize, old: Core, core: Core) {
+fn show_core(stdout: &mut Stdout, place: usize, old: Core, core: Core) {
     if old.cs == core.cs {
         if old.ds == core.ds {
             if old.es == core.es {
@@ -111,17 +111,17 @@ fn show_core(place: usize, old: Core, core: Core) {
             }
         }
     }
-    io::write_all(STDOUT_FILENO, b" |");
-    show_field(place as u64);
-    io::write_all(STDOUT_FILENO, b":");
-    show_fields(core.cs as u64, core.ds as u64, core.es as u64);
+    streams::write_all(stdout, b" |");
+    show_field(stdout, place as u64);
+    streams::write_all(stdout, b":");
+    show_fields(stdout, core.cs as u64, core.ds as u64, core.es as u64);
 }
 
-fn show_cores(old: [Core; 33], list: [Core; 33]) {
+fn show_cores(stdout: &mut Stdout, old: [Core; 33], list: [Core; 33]) {
     for i in 0..33 {
-        show_core(i, old[i], list[i]);
+        show_core(stdout, i, old[i], list[i]);
     }
-    io::write_all(STDOUT_FILENO, b"\n");
+    streams::write_all(stdout, b"\n");
 }
 
 // ---- Calling
@@ -159,6 +159,7 @@ fn told_of(sets: usize) -> Geometry {
 
 // A step, and what it did.
 fn step(
+    stdout: &mut Stdout,
     bench: Bench,
     tags: &mut [u64],
     valid: &mut [u16],
@@ -184,8 +185,8 @@ fn step(
     let stepped = done.stepped;
     let list = done.list;
     let reply = stepped.reply;
-    show_reply(reply);
-    show_cores(old, list);
+    show_reply(stdout, reply);
+    show_cores(stdout, old, list);
     let domains = stepped.domains;
     Bench {
         sets: bench.sets,
@@ -209,6 +210,7 @@ fn with_core(bench: Bench, numbers: [u64; 5]) -> Bench {
 
 // Does what a line asks for.
 fn do_line(
+    stdout: &mut Stdout,
     bench: Bench,
     tags: &mut [u64; 4],
     valid: &mut [u16; 1],
@@ -218,7 +220,7 @@ fn do_line(
 ) -> Bench
     requires { 0 < length line.now }
 {
-    io::write_all(STDOUT_FILENO, line);
+    streams::write_all(stdout, line);
     let numbers = script::numbers_of(line);
     let mut next = bench;
     match line[0] {
@@ -232,7 +234,7 @@ fn do_line(
             next = with_core(bench, numbers);
         }
         b's' => {
-            next = step(bench, tags, valid, dirty, words, numbers);
+            next = step(stdout, bench, tags, valid, dirty, words, numbers);
         }
         _ => {}
     }
@@ -240,6 +242,7 @@ fn do_line(
 }
 
 fn run(
+    stdout: &mut Stdout,
     tags: &mut [u64; 4],
     valid: &mut [u16; 1],
     dirty: &mut [u16; 1],
@@ -259,20 +262,21 @@ fn run(
     let mut from = 0;
     while from < text.len() {
         let next = script::line_after(text, from);
-        bench = do_line(bench, tags, valid, dirty, words, &text[from..next]);
+        bench = do_line(stdout, bench, tags, valid, dirty, words, &text[from..next]);
         from = next;
     }
 }
 
-fn main() {
+fn main(rt: HostRuntime) {
     let mut text = [0u8; 40969];
-    let got = streams::read_file(&mut text);
+    let got = streams::read_file(&mut rt.stdin(), &mut text);
     let count = got.count;
     let mut tags = [0u64; 4];
     let mut valid = [0u16; 1];
     let mut dirty = [0u16; 1];
     let mut words = [0u64; 1];
     run(
+        &mut rt.stdout(),
         &mut tags,
         &mut valid,
         &mut dirty,

@@ -2,12 +2,12 @@
 // that was not read to its end is not listed.
 #![tactic(auto)]
 
-use libc::{STDERR_FILENO, STDOUT_FILENO};
+use std::io::Stdout;
 use trace::TAGS;
 use tracefile::MAX_SETS;
 
 // Lists a file, and answers whether the whole listing was written.
-fn show(file: &[u8]) -> bool {
+fn show(stdout: &mut Stdout, file: &[u8]) -> bool {
     let mut tags = [0u64; TAGS];
     let mut valid = [0u16; MAX_SETS];
     let mut dirty = [0u16; MAX_SETS];
@@ -16,25 +16,25 @@ fn show(file: &[u8]) -> bool {
     let length = trace::list(
         file, &mut tags, &mut valid, &mut dirty, &mut words, &mut out,
     );
-    io::write_all(STDOUT_FILENO, &out[..length])
+    streams::write_all(stdout, &out[..length])
 }
 
-fn main() {
+fn main(rt: HostRuntime) {
     let mut file = [0u8; 40969];
-    let got = streams::read_file(&mut file);
+    let got = streams::read_file(&mut rt.stdin(), &mut file);
     let count = got.count;
     if got.whole {
-        if show(&file[..count]) {
+        if show(&mut rt.stdout(), &file[..count]) {
             return;
         }
-        io::write_all(
-            STDERR_FILENO,
+        streams::write_all(
+            &mut rt.stderr(),
             b"lister: standard output could not be written\n",
         );
         return;
     }
-    io::write_all(
-        STDERR_FILENO,
+    streams::write_all(
+        &mut rt.stderr(),
         b"lister: standard input could not be read to its end\n",
     );
 }

@@ -5,7 +5,7 @@
 
 ghost use Rattle.std.specs.Prelude.{◌≤◌, length};
 
-use libc::{STDERR_FILENO, STDOUT_FILENO};
+use std::io::{Stderr, Stdin, Stdout};
 use tracefile::MAX_STEPS;
 
 // A number below 16 in decimal, or 16 for anything else.
@@ -63,13 +63,13 @@ fn split(file: &[u8], n: u32, codes: &mut [u16], arguments: &mut [u64])
 }
 
 // Writes a line for each of the first steps, up to the first that cannot be written, and answers whether all were.
-fn show(codes: &[u16], arguments: &[u64], count: usize) -> bool
+fn show(stdout: &mut Stdout, codes: &[u16], arguments: &[u64], count: usize) -> bool
     requires count_in_bounds { count ≤ length codes.now }
     requires count_in_bounds_2 { count ≤ length arguments.now }
 {
     let mut i = 0;
     while i < count {
-        if show_step(codes[i], arguments[i]) {} else {
+        if show_step(stdout, codes[i], arguments[i]) {} else {
             return false;
         }
         i += 1;
@@ -78,17 +78,17 @@ fn show(codes: &[u16], arguments: &[u64], count: usize) -> bool
 }
 
 // Writes a number and what follows it, and answers whether both were written.
-fn show_number(n: u64, after: &[u8]) -> bool {
-    if io::print_decimal(STDOUT_FILENO, n) {
-        return io::write_all(STDOUT_FILENO, after);
+fn show_number(stdout: &mut Stdout, n: u64, after: &[u8]) -> bool {
+    if streams::print_decimal(stdout, n) {
+        return streams::write_all(stdout, after);
     }
     false
 }
 
-fn show_step(code: u16, argument: u64) -> bool {
-    if show_number((code % 256) as u64, b" ") {
-        if show_number((code / 256) as u64, b" ") {
-            return show_number(argument, b"\n");
+fn show_step(stdout: &mut Stdout, code: u16, argument: u64) -> bool {
+    if show_number(stdout, (code % 256) as u64, b" ") {
+        if show_number(stdout, (code / 256) as u64, b" ") {
+            return show_number(stdout, argument, b"\n");
         }
     }
     false
@@ -96,6 +96,7 @@ fn show_step(code: u16, argument: u64) -> bool {
 
 // Writes the steps of a file of n that the purge of a domain keeps, and answers whether all were written. The lists lent have room for n steps.
 fn purge(
+    stdout: &mut Stdout,
     file: &[u8],
     n: u32,
     domain: usize,
@@ -115,11 +116,11 @@ fn purge(
     if (n as usize) < count {
         return false;
     }
-    show(kept_codes, kept_arguments, count)
+    show(stdout, kept_codes, kept_arguments, count)
 }
 
 // Lends lists of as many steps as the file has.
-fn lend(file: &[u8], domain: usize) -> bool {
+fn lend(stdout: &mut Stdout, file: &[u8], domain: usize) -> bool {
     let n = tracefile::steps(file);
     let steps = n as usize;
     if MAX_STEPS < steps {
@@ -130,6 +131,7 @@ fn lend(file: &[u8], domain: usize) -> bool {
     let mut kept_codes = [0u16; MAX_STEPS];
     let mut kept_arguments = [0u64; MAX_STEPS];
     purge(
+        stdout,
         file,
         n,
         domain,
@@ -141,44 +143,41 @@ fn lend(file: &[u8], domain: usize) -> bool {
 }
 
 // Purges a file that was read to its end, and answers whether all was written.
-fn show_file(file: &[u8], domain: usize) -> bool {
+fn show_file(stdout: &mut Stdout, file: &[u8], domain: usize) -> bool {
     if tracefile::refusal(file) == 10 {
         return true;
     }
-    lend(file, domain)
+    lend(stdout, file, domain)
 }
 
 // Purges the file on standard input.
-fn purge_input(domain: usize) {
+fn purge_input(stdin: &mut Stdin, stdout: &mut Stdout, stderr: &mut Stderr, domain: usize) {
     let mut file = [0u8; 40969];
-    let got = streams::read_file(&mut file);
+    let got = streams::read_file(stdin, &mut file);
     let count = got.count;
     if got.whole {
-        if show_file(&file[..count], domain) {
+        if show_file(stdout, &file[..count], domain) {
             return;
         }
-        io::write_all(
-            STDERR_FILENO,
-            b"purger: standard output could not be written\n",
-        );
+        streams::write_all(stderr, b"purger: standard output could not be written\n");
         return;
     }
-    io::write_all(
-        STDERR_FILENO,
+    streams::write_all(
+        stderr,
         b"purger: standard input could not be read to its end\n",
     );
 }
 
-fn main() {
+fn main(rt: HostRuntime) {
     let mut name = [0u8; 4];
-    let length = os::arg(1, &mut name);
+    let length = streams::arg(&rt, 1, &mut name);
     let domain = domain_of(&name[..length]);
     if domain < 16 {
-        purge_input(domain);
+        purge_input(&mut rt.stdin(), &mut rt.stdout(), &mut rt.stderr(), domain);
         return;
     }
-    io::write_all(
-        STDERR_FILENO,
+    streams::write_all(
+        &mut rt.stderr(),
         b"purger: the first argument has to be a domain, 0 to 15\n",
     );
 }

@@ -10,50 +10,50 @@
 // gives the one line `refused` and its number. A failed read or write is told on standard error.
 #![tactic(auto)]
 
-use libc::{STDERR_FILENO, STDOUT_FILENO};
 use replacement::{Outcome, Reply};
+use std::io::Stdout;
 
 // Writes a space and a number, and answers whether both were written.
-fn show_field(n: u64) -> bool {
-    if io::write_all(STDOUT_FILENO, b" ") {
-        return io::print_decimal(STDOUT_FILENO, n);
+fn show_field(stdout: &mut Stdout, n: u64) -> bool {
+    if streams::write_all(stdout, b" ") {
+        return streams::print_decimal(stdout, n);
     }
     false
 }
 
 // Writes the last number of a line, and the line's end.
-fn show_last(n: u64) -> bool {
-    if show_field(n) {
-        return io::write_all(STDOUT_FILENO, b"\n");
+fn show_last(stdout: &mut Stdout, n: u64) -> bool {
+    if show_field(stdout, n) {
+        return streams::write_all(stdout, b"\n");
     }
     false
 }
 
 // Ends a line with the number of a refusal.
-fn show_refused(number: u64) -> bool {
-    if io::write_all(STDOUT_FILENO, b" refused") {
-        return show_last(number);
+fn show_refused(stdout: &mut Stdout, number: u64) -> bool {
+    if streams::write_all(stdout, b" refused") {
+        return show_last(stdout, number);
     }
     false
 }
 
 // Ends a line with a way and a word.
-fn show_choice(way: usize, word: u64) -> bool {
-    if show_field(way as u64) {
-        return show_last(word);
+fn show_choice(stdout: &mut Stdout, way: usize, word: u64) -> bool {
+    if show_field(stdout, way as u64) {
+        return show_last(stdout, word);
     }
     false
 }
 
 // Ends a line with what a call gave: its way, if it answers one, and its word, or the number of its refusal.
-fn show_outcome(outcome: Outcome) -> bool {
+fn show_outcome(stdout: &mut Stdout, outcome: Outcome) -> bool {
     let reply = outcome.reply;
     match reply {
-        Reply::Way(way) => show_choice(way, outcome.word),
-        Reply::Done => show_last(outcome.word),
-        Reply::OutsideLimits => show_refused(1),
-        Reply::OutOfReach => show_refused(5),
-        Reply::SharedNode => show_refused(9),
+        Reply::Way(way) => show_choice(stdout, way, outcome.word),
+        Reply::Done => show_last(stdout, outcome.word),
+        Reply::OutsideLimits => show_refused(stdout, 1),
+        Reply::OutOfReach => show_refused(stdout, 5),
+        Reply::SharedNode => show_refused(stdout, 9),
     }
 }
 
@@ -67,87 +67,108 @@ fn number_of(reply: Reply) -> u64 {
     }
 }
 
-fn show_fresh(ways: usize, rule: usize) -> bool {
-    if io::write_all(STDOUT_FILENO, b"fresh") {
-        return show_outcome(replacement::fresh(ways, rule));
+fn show_fresh(stdout: &mut Stdout, ways: usize, rule: usize) -> bool {
+    if streams::write_all(stdout, b"fresh") {
+        return show_outcome(stdout, replacement::fresh(ways, rule));
     }
     false
 }
 
-fn show_own(ways: usize, rule: usize, word: u64, map: u16) -> bool {
-    if io::write_all(STDOUT_FILENO, b"own") {
-        return show_outcome(replacement::own(ways, rule, word, map));
+fn show_own(stdout: &mut Stdout, ways: usize, rule: usize, word: u64, map: u16) -> bool {
+    if streams::write_all(stdout, b"own") {
+        return show_outcome(stdout, replacement::own(ways, rule, word, map));
     }
     false
 }
 
-fn show_victim(ways: usize, rule: usize, word: u64, map: u16) -> bool {
-    if io::write_all(STDOUT_FILENO, b"victim") {
-        return show_outcome(replacement::victim(ways, rule, word, map));
+fn show_victim(stdout: &mut Stdout, ways: usize, rule: usize, word: u64, map: u16) -> bool {
+    if streams::write_all(stdout, b"victim") {
+        return show_outcome(stdout, replacement::victim(ways, rule, word, map));
     }
     false
 }
 
-fn show_touch(ways: usize, rule: usize, word: u64, map: u16, way: usize) -> bool {
-    if io::write_all(STDOUT_FILENO, b"touch") {
-        if show_field(way as u64) {
-            return show_outcome(replacement::touch(ways, rule, word, map, way));
+fn show_touch(
+    stdout: &mut Stdout,
+    ways: usize,
+    rule: usize,
+    word: u64,
+    map: u16,
+    way: usize,
+) -> bool {
+    if streams::write_all(stdout, b"touch") {
+        if show_field(stdout, way as u64) {
+            return show_outcome(stdout, replacement::touch(ways, rule, word, map, way));
         }
     }
     false
 }
 
 // Writes the touches of all ways, and of the first number that is no way.
-fn show_touches(ways: usize, rule: usize, word: u64, map: u16) -> bool {
+fn show_touches(stdout: &mut Stdout, ways: usize, rule: usize, word: u64, map: u16) -> bool {
     for way in 0..=ways {
-        if show_touch(ways, rule, word, map, way) {} else {
+        if show_touch(stdout, ways, rule, word, map, way) {} else {
             return false;
         }
     }
     true
 }
 
-fn show_change(ways: usize, rule: usize, word: u64, old: u16, map: u16) -> bool {
+fn show_change(
+    stdout: &mut Stdout,
+    ways: usize,
+    rule: usize,
+    word: u64,
+    old: u16,
+    map: u16,
+) -> bool {
     let change = replacement::change_of(ways, rule, old, map);
-    if io::write_all(STDOUT_FILENO, b"change") {
-        return show_last(replacement::changed(change, word));
+    if streams::write_all(stdout, b"change") {
+        return show_last(stdout, replacement::changed(change, word));
     }
     false
 }
 
-fn show_conflict(ways: usize, rule: usize, old: u16, map: u16) -> bool {
+fn show_conflict(stdout: &mut Stdout, ways: usize, rule: usize, old: u16, map: u16) -> bool {
     let reply = replacement::conflict(ways, rule, old, map);
-    if io::write_all(STDOUT_FILENO, b"conflict") {
-        return show_last(number_of(reply));
+    if streams::write_all(stdout, b"conflict") {
+        return show_last(stdout, number_of(reply));
     }
     false
 }
 
 // Writes what the calls with a word and a map give, and those with the map before it, `old`, too.
-fn show_entry(ways: usize, rule: usize, word: u64, old: u16, map: u16) -> bool {
-    if show_own(ways, rule, word, map) {} else {
+fn show_entry(
+    stdout: &mut Stdout,
+    ways: usize,
+    rule: usize,
+    word: u64,
+    old: u16,
+    map: u16,
+) -> bool {
+    if show_own(stdout, ways, rule, word, map) {} else {
         return false;
     }
-    if show_victim(ways, rule, word, map) {} else {
+    if show_victim(stdout, ways, rule, word, map) {} else {
         return false;
     }
-    if show_touches(ways, rule, word, map) {} else {
+    if show_touches(stdout, ways, rule, word, map) {} else {
         return false;
     }
-    if show_change(ways, rule, word, old, map) {
-        return show_conflict(ways, rule, old, map);
+    if show_change(stdout, ways, rule, word, old, map) {
+        return show_conflict(stdout, ways, rule, old, map);
     }
     false
 }
 
 // Writes the lines of all entries, up to the first that cannot be written, and answers whether all were.
-fn show_entries(file: &[u8], ways: usize, rule: usize) -> bool {
+fn show_entries(stdout: &mut Stdout, file: &[u8], ways: usize, rule: usize) -> bool {
     let n = tracefile::steps(file);
     let mut old = 0u16;
     for i in 0..n {
         let entry = tracefile::command_at(file, n, i);
         let map = command::code_of(entry);
-        if show_entry(ways, rule, entry.argument, old, map) {} else {
+        if show_entry(stdout, ways, rule, entry.argument, old, map) {} else {
             return false;
         }
         old = map;
@@ -155,37 +176,37 @@ fn show_entries(file: &[u8], ways: usize, rule: usize) -> bool {
     true
 }
 
-fn show_file(file: &[u8]) -> bool {
+fn show_file(stdout: &mut Stdout, file: &[u8]) -> bool {
     let number = tracefile::refusal(file);
     if number != 0 {
-        if io::write_all(STDOUT_FILENO, b"refused") {
-            return show_last(number as u64);
+        if streams::write_all(stdout, b"refused") {
+            return show_last(stdout, number as u64);
         }
         return false;
     }
     let g = geometry::named(file);
-    if show_fresh(g.ways, g.rule) {
-        return show_entries(file, g.ways, g.rule);
+    if show_fresh(stdout, g.ways, g.rule) {
+        return show_entries(stdout, file, g.ways, g.rule);
     }
     false
 }
 
-fn main() {
+fn main(rt: HostRuntime) {
     let mut file = [0u8; 40969];
-    let got = streams::read_file(&mut file);
+    let got = streams::read_file(&mut rt.stdin(), &mut file);
     let count = got.count;
     if got.whole {
-        if show_file(&file[..count]) {
+        if show_file(&mut rt.stdout(), &file[..count]) {
             return;
         }
-        io::write_all(
-            STDERR_FILENO,
+        streams::write_all(
+            &mut rt.stderr(),
             b"rules: standard output could not be written\n",
         );
         return;
     }
-    io::write_all(
-        STDERR_FILENO,
+    streams::write_all(
+        &mut rt.stderr(),
         b"rules: standard input could not be read to its end\n",
     );
 }

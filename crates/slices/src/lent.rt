@@ -7,6 +7,7 @@ ghost use Rattle.std.specs.Prelude.{◌≡◌, ◌+◌, ◌*◌, ◌≤◌, ◌<
 use crate::Shown;
 use domains::{Counts, Domain, Domains};
 use geometry::Geometry;
+use std::io::Stdout;
 use tracefile::MAX_SETS;
 
 // What stands before the trace file.
@@ -79,9 +80,10 @@ fn put_maps(head: &[u8], from: usize, table: &mut [u16])
 }
 
 // Writes the line of a domain.
-fn show_domain(number: u64, own: Domain) -> bool {
+fn show_domain(stdout: &mut Stdout, number: u64, own: Domain) -> bool {
     let counts = own.counts;
     crate::show_told(
+        stdout,
         b"domain",
         &[
             number,
@@ -99,10 +101,10 @@ fn show_domain(number: u64, own: Domain) -> bool {
 }
 
 // Writes the lines of all domains.
-fn show_domains(domains: Domains) -> bool {
+fn show_domains(stdout: &mut Stdout, domains: Domains) -> bool {
     for d in 0..16 {
         let own = domains.records[d];
-        if show_domain(d as u64, own) {} else {
+        if show_domain(stdout, d as u64, own) {} else {
             return false;
         }
     }
@@ -111,6 +113,7 @@ fn show_domains(domains: Domains) -> bool {
 
 // Makes the calls of a trace file on what stands before it.
 fn run_lent(
+    stdout: &mut Stdout,
     g: Geometry,
     head: &[u8],
     file: &[u8],
@@ -126,11 +129,21 @@ fn run_lent(
 {
     put_maps(head, 512, valid);
     put_maps(head, 1024, dirty);
-    crate::run(g, file, n, tags, valid, dirty, words, domains_of(head))
+    crate::run(
+        stdout,
+        g,
+        file,
+        n,
+        tags,
+        valid,
+        dirty,
+        words,
+        domains_of(head),
+    )
 }
 
 // Lends tables for the sets and ways of a trace file within the limits.
-fn lend(g: Geometry, head: &[u8], file: &[u8], n: u32) -> bool
+fn lend(stdout: &mut Stdout, g: Geometry, head: &[u8], file: &[u8], n: u32) -> bool
     requires { length head.now ≡ 1536 }
 {
     let mut tags = [0u64; 16 * MAX_SETS];
@@ -140,6 +153,7 @@ fn lend(g: Geometry, head: &[u8], file: &[u8], n: u32) -> bool
     let sets = crate::at_most(g.sets, MAX_SETS);
     let cells = crate::cells_of(sets, crate::at_most(g.ways, 16));
     let shown = run_lent(
+        stdout,
         g,
         head,
         file,
@@ -150,31 +164,31 @@ fn lend(g: Geometry, head: &[u8], file: &[u8], n: u32) -> bool
         &mut words[0..sets],
     );
     if shown.written {
-        return show_domains(shown.domains);
+        return show_domains(stdout, shown.domains);
     }
     false
 }
 
 // Writes the lines of a trace file with what stands before it.
-fn show_parts(head: &[u8], file: &[u8]) -> bool
+fn show_parts(stdout: &mut Stdout, head: &[u8], file: &[u8]) -> bool
     requires { length head.now ≡ 1536 }
 {
     let number = tracefile::refusal(file);
     if number != 0 {
-        return crate::show_told(b"refused", &[number as u64]);
+        return crate::show_told(stdout, b"refused", &[number as u64]);
     }
     let n = tracefile::steps(file);
     let g = geometry::named(file);
-    if crate::show_head(g, n) {
-        return lend(g, head, file, n);
+    if crate::show_head(stdout, g, n) {
+        return lend(stdout, g, head, file, n);
     }
     false
 }
 
 // Writes the lines of a file that has no trace file's length.
-pub fn show_file(file: &[u8]) -> bool {
+pub fn show_file(stdout: &mut Stdout, file: &[u8]) -> bool {
     if file.len() < HEAD {
-        return crate::show_told(b"refused", &[10]);
+        return crate::show_told(stdout, b"refused", &[10]);
     }
-    show_parts(&file[..HEAD], &file[HEAD..])
+    show_parts(stdout, &file[..HEAD], &file[HEAD..])
 }

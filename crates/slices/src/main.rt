@@ -12,66 +12,66 @@ ghost use Rattle.geometry.specs.Geometry.{max_sets};
 use command::Answer;
 use domains::{Domain, Domains};
 use geometry::{Geometry, MAX_SETS};
-use libc::{STDERR_FILENO, STDOUT_FILENO};
 use policy::Maps;
+use std::io::Stdout;
 use tracefile::MAX_STEPS;
 
 // Writes a space and a number, and answers whether both were written.
-fn show_field(n: u64) -> bool {
-    if io::write_all(STDOUT_FILENO, b" ") {
-        return io::print_decimal(STDOUT_FILENO, n);
+fn show_field(stdout: &mut Stdout, n: u64) -> bool {
+    if streams::write_all(stdout, b" ") {
+        return streams::print_decimal(stdout, n);
     }
     false
 }
 
 // Ends a line with numbers.
-fn show_numbers(values: &[u64]) -> bool {
+fn show_numbers(stdout: &mut Stdout, values: &[u64]) -> bool {
     let mut i = 0;
     while i < values.len() {
-        if show_field(values[i]) {} else {
+        if show_field(stdout, values[i]) {} else {
             return false;
         }
         i += 1;
     }
-    io::write_all(STDOUT_FILENO, b"\n")
+    streams::write_all(stdout, b"\n")
 }
 
 // Ends a line with a word and numbers.
-pub fn show_told(word: &[u8], values: &[u64]) -> bool {
-    if io::write_all(STDOUT_FILENO, word) {
-        return show_numbers(values);
+pub fn show_told(stdout: &mut Stdout, word: &[u8], values: &[u64]) -> bool {
+    if streams::write_all(stdout, word) {
+        return show_numbers(stdout, values);
     }
     false
 }
 
 // Ends a line with an answer.
-fn show_answer(answer: Answer) -> bool {
+fn show_answer(stdout: &mut Stdout, answer: Answer) -> bool {
     match answer {
-        Answer::Hit(way) => show_told(b" hit", &[way as u64]),
-        Answer::Fill(way) => show_told(b" fill", &[way as u64]),
+        Answer::Hit(way) => show_told(stdout, b" hit", &[way as u64]),
+        Answer::Fill(way) => show_told(stdout, b" fill", &[way as u64]),
         Answer::Evict { way, tag, dirty } => {
-            show_told(b" evict", &[way as u64, tag, dirty as u64])
+            show_told(stdout, b" evict", &[way as u64, tag, dirty as u64])
         }
-        Answer::Pass => io::write_all(STDOUT_FILENO, b" pass\n"),
-        Answer::Flush { way, dirty } => show_told(b" flush", &[way as u64, dirty as u64]),
-        Answer::Absent => io::write_all(STDOUT_FILENO, b" absent\n"),
+        Answer::Pass => streams::write_all(stdout, b" pass\n"),
+        Answer::Flush { way, dirty } => show_told(stdout, b" flush", &[way as u64, dirty as u64]),
+        Answer::Absent => streams::write_all(stdout, b" absent\n"),
         Answer::Policy { dropped, dirty } => {
-            show_told(b" policy", &[dropped as u64, dirty as u64])
+            show_told(stdout, b" policy", &[dropped as u64, dirty as u64])
         }
-        Answer::Refused(number) => show_told(b" refused", &[number as u64]),
+        Answer::Refused(number) => show_told(stdout, b" refused", &[number as u64]),
     }
 }
 
 // Writes the line of a step.
-fn show_step(place: u32, answer: Answer) -> bool {
-    if io::print_decimal(STDOUT_FILENO, place as u64) {
-        return show_answer(answer);
+fn show_step(stdout: &mut Stdout, place: u32, answer: Answer) -> bool {
+    if streams::print_decimal(stdout, place as u64) {
+        return show_answer(stdout, answer);
     }
     false
 }
 
 // Writes the line of a domain whose hit map is not empty.
-fn show_domain(ways: usize, number: u64, own: Domain) -> bool {
+fn show_domain(stdout: &mut Stdout, ways: usize, number: u64, own: Domain) -> bool {
     let read = policy::as_read(
         ways,
         Maps {
@@ -84,6 +84,7 @@ fn show_domain(ways: usize, number: u64, own: Domain) -> bool {
     }
     let counts = own.counts;
     show_told(
+        stdout,
         b"domain",
         &[
             number,
@@ -99,10 +100,10 @@ fn show_domain(ways: usize, number: u64, own: Domain) -> bool {
 }
 
 // Writes the lines of all domains that have ways.
-fn show_domains(ways: usize, domains: Domains) -> bool {
+fn show_domains(stdout: &mut Stdout, ways: usize, domains: Domains) -> bool {
     for d in 0..16 {
         let own = domains.records[d];
-        if show_domain(ways, d as u64, own) {} else {
+        if show_domain(stdout, ways, d as u64, own) {} else {
             return false;
         }
     }
@@ -118,6 +119,7 @@ pub struct Shown {
 
 // Makes the call of step i of a file of n steps, and writes its line. After a line that could not be written nothing more is done.
 fn take(
+    stdout: &mut Stdout,
     g: Geometry,
     file: &[u8],
     n: u32,
@@ -147,12 +149,13 @@ fn take(
     let domains = stepped.domains;
     Shown {
         domains,
-        written: show_step(i, answer),
+        written: show_step(stdout, i, answer),
     }
 }
 
 // Makes the calls of a file's steps on the lent tables and records.
 pub fn run(
+    stdout: &mut Stdout,
     g: Geometry,
     file: &[u8],
     n: u32,
@@ -167,7 +170,7 @@ pub fn run(
         written: true,
     };
     for i in 0..n {
-        shown = take(g, file, n, i, tags, valid, dirty, words, shown);
+        shown = take(stdout, g, file, n, i, tags, valid, dirty, words, shown);
     }
     shown
 }
@@ -193,6 +196,7 @@ pub fn cells_of(sets: usize, ways: usize) -> usize
 
 // Makes the calls from a fresh cache.
 fn run_fresh(
+    stdout: &mut Stdout,
     g: Geometry,
     file: &[u8],
     n: u32,
@@ -203,6 +207,7 @@ fn run_fresh(
 ) -> Shown {
     fresh::fresh_tables(g, tags, valid, dirty, words);
     run(
+        stdout,
         g,
         file,
         n,
@@ -215,7 +220,7 @@ fn run_fresh(
 }
 
 // Lends tables for as many sets and ways as are named; more than there may be are not, and then each call is refused all the same.
-fn lend(g: Geometry, file: &[u8], n: u32) -> bool {
+fn lend(stdout: &mut Stdout, g: Geometry, file: &[u8], n: u32) -> bool {
     let mut tags = [0u64; 16 * MAX_SETS];
     let mut valid = [0u16; MAX_SETS];
     let mut dirty = [0u16; MAX_SETS];
@@ -223,6 +228,7 @@ fn lend(g: Geometry, file: &[u8], n: u32) -> bool {
     let sets = at_most(g.sets, MAX_SETS);
     let cells = cells_of(sets, at_most(g.ways, 16));
     let shown = run_fresh(
+        stdout,
         g,
         file,
         n,
@@ -232,7 +238,7 @@ fn lend(g: Geometry, file: &[u8], n: u32) -> bool {
         &mut words[0..sets],
     );
     if shown.written {
-        return show_domains(g.ways, shown.domains);
+        return show_domains(stdout, g.ways, shown.domains);
     }
     false
 }
@@ -249,42 +255,42 @@ fn whole(file: &[u8], n: usize) -> bool {
 }
 
 // Writes the first line, of a file of n steps.
-pub fn show_head(g: Geometry, n: u32) -> bool {
-    if io::print_decimal(STDOUT_FILENO, g.sets as u64) {
-        return show_numbers(&[g.ways as u64, g.rule as u64, n as u64]);
+pub fn show_head(stdout: &mut Stdout, g: Geometry, n: u32) -> bool {
+    if streams::print_decimal(stdout, g.sets as u64) {
+        return show_numbers(stdout, &[g.ways as u64, g.rule as u64, n as u64]);
     }
     false
 }
 
 // Writes the lines of a file.
-fn show_file(file: &[u8]) -> bool {
+fn show_file(stdout: &mut Stdout, file: &[u8]) -> bool {
     let n = tracefile::steps(file);
     if whole(file, n as usize) {} else {
-        return lent::show_file(file);
+        return lent::show_file(stdout, file);
     }
     let g = geometry::named(file);
-    if show_head(g, n) {
-        return lend(g, file, n);
+    if show_head(stdout, g, n) {
+        return lend(stdout, g, file, n);
     }
     false
 }
 
-fn main() {
+fn main(rt: HostRuntime) {
     let mut file = [0u8; 40969];
-    let got = streams::read_file(&mut file);
+    let got = streams::read_file(&mut rt.stdin(), &mut file);
     let count = got.count;
     if got.whole {
-        if show_file(&file[..count]) {
+        if show_file(&mut rt.stdout(), &file[..count]) {
             return;
         }
-        io::write_all(
-            STDERR_FILENO,
+        streams::write_all(
+            &mut rt.stderr(),
             b"slices: standard output could not be written\n",
         );
         return;
     }
-    io::write_all(
-        STDERR_FILENO,
+    streams::write_all(
+        &mut rt.stderr(),
         b"slices: standard input could not be read to its end\n",
     );
 }

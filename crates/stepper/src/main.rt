@@ -18,10 +18,10 @@ use command::Answer;
 use cores::{Reply, Stepped};
 use domains::{Counts, Domain, Domains};
 use geometry::{Geometry, Place};
-use libc::{STDERR_FILENO, STDOUT_FILENO};
 use policy::Maps;
 use row::Lines;
 use selectors::{Core, MAX_CORES, Meaning};
+use std::io::Stdout;
 use tracefile::MAX_SETS;
 
 // Puts the n low bytes of a value, and answers the place after them.
@@ -282,6 +282,7 @@ fn put_head(shown: Shown, span: Span, out: &mut [u8])
 
 // Writes a block, and answers whether all of it was written.
 fn show(
+    stdout: &mut Stdout,
     ways: usize,
     shown: Shown,
     span: Span,
@@ -301,7 +302,7 @@ fn show(
     let to = span.to;
     put_head(shown, span, out);
     let n = put_rows(ways, from, to, tags, valid, dirty, words, out, 616);
-    io::write_all(STDOUT_FILENO, &out[..n])
+    streams::write_all(stdout, &out[..n])
 }
 
 // The valid lines in a domain's hit map, over all sets.
@@ -331,11 +332,17 @@ fn put_held(ways: usize, domains: Domains, valid: &[u16], out: &mut [u8]) -> usi
 }
 
 // Writes them, and answers whether all was written.
-fn show_held(ways: usize, domains: Domains, valid: &[u16], out: &mut [u8]) -> bool
+fn show_held(
+    stdout: &mut Stdout,
+    ways: usize,
+    domains: Domains,
+    valid: &[u16],
+    out: &mut [u8],
+) -> bool
     requires { 64 ≤ length out.old }
 {
     let n = put_held(ways, domains, valid, out);
-    io::write_all(STDOUT_FILENO, &out[..n])
+    streams::write_all(stdout, &out[..n])
 }
 
 // How many ways the lookup of a step visits, on the tables before it. Only an access or a flush has one.
@@ -499,6 +506,7 @@ fn take(
 
 // Writes block i of a file of n steps, and takes step i, if there is one.
 fn block(
+    stdout: &mut Stdout,
     g: Geometry,
     file: &[u8],
     n: u32,
@@ -515,7 +523,7 @@ fn block(
     requires max_file_sets_in_bounds { 616 + 142 * max_file_sets ≤ length out.old }
 {
     let span = span_of(file, n, i, g);
-    let shown = show(g.ways, before, span, tags, valid, dirty, words, out);
+    let shown = show(stdout, g.ways, before, span, tags, valid, dirty, words, out);
     let mut after = before;
     after.written = both(before.written, shown);
     if i == n {
@@ -526,6 +534,7 @@ fn block(
 
 // Writes the blocks of a file that is not refused, on tables of its geometry, and what the domains hold at the end, and answers whether all was written.
 fn run(
+    stdout: &mut Stdout,
     g: Geometry,
     file: &[u8],
     tags: &mut [u64],
@@ -556,15 +565,17 @@ fn run(
     let last = n as usize;
     let mut i = 0;
     while i <= last {
-        shown = block(g, file, n, i as u32, tags, valid, dirty, words, shown, out);
+        shown = block(
+            stdout, g, file, n, i as u32, tags, valid, dirty, words, shown, out,
+        );
         i += 1;
     }
-    let held = show_held(g.ways, shown.domains, valid, out);
+    let held = show_held(stdout, g.ways, shown.domains, valid, out);
     both(shown.written, held)
 }
 
 // Lends the front of the tables, and the output.
-fn lend(g: Geometry, cells: usize, file: &[u8]) -> bool
+fn lend(stdout: &mut Stdout, g: Geometry, cells: usize, file: &[u8]) -> bool
     requires small { Small g.sets g.ways }
     requires cells_value { cells ≡ g.sets * g.ways }
     requires cells_bound { cells ≤ 16 * max_file_sets }
@@ -576,6 +587,7 @@ fn lend(g: Geometry, cells: usize, file: &[u8]) -> bool
     let mut out = [0u8; 616 + 142 * MAX_SETS];
     let sets = g.sets;
     run(
+        stdout,
         g,
         file,
         &mut tags[0..cells],
@@ -587,7 +599,7 @@ fn lend(g: Geometry, cells: usize, file: &[u8]) -> bool
 }
 
 // Writes the blocks of a file, and answers whether all were written; a refused file has none.
-fn show_file(file: &[u8]) -> bool {
+fn show_file(stdout: &mut Stdout, file: &[u8]) -> bool {
     if tracefile::refusal(file) != 0 {
         return true;
     }
@@ -603,25 +615,25 @@ fn show_file(file: &[u8]) -> bool {
     if 16 < ways {
         return false;
     }
-    lend(g, start_of(sets, ways), file)
+    lend(stdout, g, start_of(sets, ways), file)
 }
 
-fn main() {
+fn main(rt: HostRuntime) {
     let mut file = [0u8; 40969];
-    let got = streams::read_file(&mut file);
+    let got = streams::read_file(&mut rt.stdin(), &mut file);
     let count = got.count;
     if got.whole {
-        if show_file(&file[..count]) {
+        if show_file(&mut rt.stdout(), &file[..count]) {
             return;
         }
-        io::write_all(
-            STDERR_FILENO,
+        streams::write_all(
+            &mut rt.stderr(),
             b"stepper: standard output could not be written\n",
         );
         return;
     }
-    io::write_all(
-        STDERR_FILENO,
+    streams::write_all(
+        &mut rt.stderr(),
         b"stepper: standard input could not be read to its end\n",
     );
 }

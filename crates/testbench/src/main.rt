@@ -10,7 +10,7 @@
 
 ghost use Rattle.std.specs.Prelude.{◌≤◌, ◌<◌, length};
 
-use libc::STDOUT_FILENO;
+use std::io::Stdout;
 
 // Room for a block, and for an answer.
 const BLOCK: usize = 1024;
@@ -43,14 +43,14 @@ fn digit(n: u8) -> u8 {
 }
 
 // A row's place.
-fn show_place(place: usize) {
-    io::write_all(STDOUT_FILENO, b" ");
-    io::print_decimal(STDOUT_FILENO, place as u64);
-    io::write_all(STDOUT_FILENO, b":");
+fn show_place(stdout: &mut Stdout, place: usize) {
+    streams::write_all(stdout, b" ");
+    streams::print_decimal(stdout, place as u64);
+    streams::write_all(stdout, b":");
 }
 
 // A byte that is not as it was, or any: behind the one before it where that was shown, and else with its place. Rows have up to 32 bytes.
-fn show_at(place: usize, byte: u8, old: u8, all: bool, begun: bool) -> bool {
+fn show_at(stdout: &mut Stdout, place: usize, byte: u8, old: u8, all: bool, begun: bool) -> bool {
     if byte == old {
         if all {} else {
             return false;
@@ -58,32 +58,32 @@ fn show_at(place: usize, byte: u8, old: u8, all: bool, begun: bool) -> bool {
     }
     if begun {
         if place % 32 == 0 {
-            show_place(place);
+            show_place(stdout, place);
         }
     } else {
-        show_place(place);
+        show_place(stdout, place);
     }
-    io::write_all(STDOUT_FILENO, &[digit(byte / 16), digit(byte)]);
+    streams::write_all(stdout, &[digit(byte / 16), digit(byte)]);
     true
 }
 
 // The bytes that are not as they were, or all.
-fn show_rows(bytes: &[u8], old: &[u8], all: bool)
+fn show_rows(stdout: &mut Stdout, bytes: &[u8], old: &[u8], all: bool)
     requires { length bytes.now ≤ length old.now }
 {
     let mut begun = false;
     let mut i = 0;
     while i < bytes.len() {
-        begun = show_at(i, bytes[i], old[i], all, begun);
+        begun = show_at(stdout, i, bytes[i], old[i], all, begun);
         i += 1;
     }
-    io::write_all(STDOUT_FILENO, b"\n");
+    streams::write_all(stdout, b"\n");
 }
 
 // The result of a call.
-fn show_result(number: u64) {
-    io::write_all(STDOUT_FILENO, b"= ");
-    io::print_decimal(STDOUT_FILENO, number);
+fn show_result(stdout: &mut Stdout, number: u64) {
+    streams::write_all(stdout, b"= ");
+    streams::print_decimal(stdout, number);
 }
 
 // ---- Calling
@@ -100,15 +100,32 @@ fn keep(old: &mut [u8], block: &[u8])
 }
 
 // A step, with a lent answer.
-fn step_with(block: &mut [u8], answer: &mut [u8], domain: u64, kind: u64, argument: u64) {
-    show_result(block::dipperlock_step(block, domain, kind, argument, answer));
-    show_rows(answer, answer, true);
+fn step_with(
+    stdout: &mut Stdout,
+    block: &mut [u8],
+    answer: &mut [u8],
+    domain: u64,
+    kind: u64,
+    argument: u64,
+) {
+    show_result(
+        stdout,
+        block::dipperlock_step(block, domain, kind, argument, answer),
+    );
+    show_rows(stdout, answer, answer, true);
 }
 
-fn step(block: &mut [u8], length: usize, domain: u64, kind: u64, argument: u64) {
+fn step(
+    stdout: &mut Stdout,
+    block: &mut [u8],
+    length: usize,
+    domain: u64,
+    kind: u64,
+    argument: u64,
+) {
     let mut answer = [LENT; ANSWER];
     let n = at_most(length, ANSWER);
-    step_with(block, &mut answer[0..n], domain, kind, argument);
+    step_with(stdout, block, &mut answer[0..n], domain, kind, argument);
 }
 
 // Writes a byte of a block, if there is such a place.
@@ -119,10 +136,14 @@ fn put(block: &mut [u8], place: usize, byte: u64) {
 }
 
 // What a line asks for on the block that is lent.
-fn call(block: &mut [u8], word: u8, numbers: [u64; 5]) {
+fn call(stdout: &mut Stdout, block: &mut [u8], word: u8, numbers: [u64; 5]) {
     match word {
-        b'f' => show_result(block::dipperlock_fresh(block, numbers[1], numbers[2], numbers[3])),
+        b'f' => show_result(
+            stdout,
+            block::dipperlock_fresh(block, numbers[1], numbers[2], numbers[3]),
+        ),
         b's' => step(
+            stdout,
             block,
             numbers[1] as usize,
             numbers[2],
@@ -135,48 +156,61 @@ fn call(block: &mut [u8], word: u8, numbers: [u64; 5]) {
 }
 
 // The same, and what it changed.
-fn take(block: &mut [u8], old: &mut [u8], word: u8, numbers: [u64; 5])
+fn take(stdout: &mut Stdout, block: &mut [u8], old: &mut [u8], word: u8, numbers: [u64; 5])
     requires { length block.old ≤ length old.old }
 {
     keep(old, block);
-    call(block, word, numbers);
-    show_rows(block, old, word == b'a');
+    call(stdout, block, word, numbers);
+    show_rows(stdout, block, old, word == b'a');
 }
 
 // The same, in the room for blocks.
-fn take_front(block: &mut [u8], old: &mut [u8], lent: usize, word: u8, numbers: [u64; 5]) {
+fn take_front(
+    stdout: &mut Stdout,
+    block: &mut [u8],
+    old: &mut [u8],
+    lent: usize,
+    word: u8,
+    numbers: [u64; 5],
+) {
     let n = at_most(lent, at_most(block.len(), old.len()));
-    take(&mut block[0..n], &mut old[0..n], word, numbers);
+    take(stdout, &mut block[0..n], &mut old[0..n], word, numbers);
 }
 
 // Does what a line asks for, and answers how many bytes are lent from here on.
-fn do_line(block: &mut [u8; BLOCK], old: &mut [u8; BLOCK], lent: usize, line: &[u8]) -> usize
+fn do_line(
+    stdout: &mut Stdout,
+    block: &mut [u8; BLOCK],
+    old: &mut [u8; BLOCK],
+    lent: usize,
+    line: &[u8],
+) -> usize
     requires { 0 < length line.now }
 {
-    io::write_all(STDOUT_FILENO, line);
+    streams::write_all(stdout, line);
     let numbers = script::numbers_of(line);
     if line[0] == b'l' {
         return numbers[1] as usize;
     }
-    take_front(block, old, lent, line[0], numbers);
+    take_front(stdout, block, old, lent, line[0], numbers);
     lent
 }
 
-fn run(block: &mut [u8; BLOCK], old: &mut [u8; BLOCK], text: &[u8]) {
+fn run(stdout: &mut Stdout, block: &mut [u8; BLOCK], old: &mut [u8; BLOCK], text: &[u8]) {
     let mut lent = 0;
     let mut from = 0;
     while from < text.len() {
         let next = script::line_after(text, from);
-        lent = do_line(block, old, lent, &text[from..next]);
+        lent = do_line(stdout, block, old, lent, &text[from..next]);
         from = next;
     }
 }
 
-fn main() {
+fn main(rt: HostRuntime) {
     let mut text = [0u8; 40969];
-    let got = streams::read_file(&mut text);
+    let got = streams::read_file(&mut rt.stdin(), &mut text);
     let count = got.count;
     let mut block = [LENT; BLOCK];
     let mut old = [0u8; BLOCK];
-    run(&mut block, &mut old, &text[..count]);
+    run(&mut rt.stdout(), &mut block, &mut old, &text[..count]);
 }
