@@ -11,7 +11,6 @@ use mir.Facts.{Fits-le}
 use borrow.Author.Count.{falls}
 use Rattle.tracefile.proofs.PlaceLaws.{place_fits, next_fits}
 use Rattle.purger.proofs.split.Goals as goal
-use Rattle.purger.proofs.split.Goals.{In-loop-i, Start}
 
 -- A place below a number of 32 bits, in elements of k bytes, in as many bits as an offset has.
 offset-fits : {k i n : ℕ} → k ≤ 8 → i < n → Fits w32 n → Fits w64 (i * k)
@@ -21,35 +20,32 @@ offset-fits {k} {i} {n} small h f = Fits-le (mul-le-mul_left i small) (record { 
 within : {i n long given : ℕ} → i < n → n ≤ given → long ≡ given → i < long
 within h room e = lt_of_lt_of_le h (le_trans room (le_of_eq (sym e)))
 
-abbrev entry : In-loop-i invariant-loop decreases-loop → Start invariant-loop decreases-loop
-entry c = c.before.before.before.before.before
-
 pub loop-i-init : goal.loop-i-init
 loop-i-init c = (refl, refl)
 
 pub overflow_cast-place : goal.overflow_cast-place
 overflow_cast-place c =
-    place_fits c.loop-i-test.true (entry c).ranges.n
+    place_fits c.loop-i-test.true c.ranges.n
 
 pub offset_bounds-codes-place : goal.offset_bounds-codes-place
-offset_bounds-codes-place c = offset-fits (lit≤ tt) c.loop-i-test.true (entry c.before.before).fits.n
+offset_bounds-codes-place c = offset-fits (lit≤ tt) c.loop-i-test.true c.fits.n
 
 pub bounds-codes-place : goal.bounds-codes-place
-bounds-codes-place c = within c.loop-i-test.true (entry c.before.before).pre.0 c.loop-i.invariant.0
+bounds-codes-place c = within c.loop-i-test.true c.pre.0 c.loop-i.invariant.0
 
 pub offset_bounds-arguments-place : goal.offset_bounds-arguments-place
-offset_bounds-arguments-place c = offset-fits (lit≤ tt) c.loop-i-test.true (entry c.before.before).fits.n
+offset_bounds-arguments-place c = offset-fits (lit≤ tt) c.loop-i-test.true c.fits.n
 
 pub bounds-arguments-place : goal.bounds-arguments-place
-bounds-arguments-place c = within c.loop-i-test.true (entry c.before.before).pre.1 c.loop-i.invariant.1
+bounds-arguments-place c = within c.loop-i-test.true c.pre.1 c.loop-i.invariant.1
 
 pub overflow_add-i : goal.overflow_add-i
 overflow_add-i c =
-    next_fits c.loop-i-test.true (entry c).ranges.n
+    next_fits c.loop-i-test.true c.ranges.n
 
 pub loop-i-smaller : goal.loop-i-smaller
 loop-i-smaller c =
-    falls (entry c).args.n c.loop-i.i c.loop-i-test.true
+    falls c.args.n c.loop-i.i c.loop-i-test.true
 
 pub loop-i-preserved : goal.loop-i-preserved
 loop-i-preserved c =
@@ -57,9 +53,3 @@ loop-i-preserved c =
       length-set loop.codes loop.i c.code_of.result ∙ loop.invariant.0,
       length-set loop.arguments loop.i c.command_at-command.result.argument ∙ loop.invariant.1,
     )
-
-pub shape_of-codes : goal.shape_of-codes
-shape_of-codes c = c.loop-i.invariant.0
-
-pub shape_of-arguments : goal.shape_of-arguments
-shape_of-arguments c = c.loop-i.invariant.1

@@ -21,8 +21,5 @@ loop-i-preserved c = length-set c.loop-i.out (c.args.at + c.loop-i.i) (c.loop-i.
 pub overflow_add-result : goal.overflow_add-result
 overflow_add-result c = omega (arith, c.requires)
 
-pub shape_of-out : goal.shape_of-out
-shape_of-out c = c.loop-i.invariant
-
 pub returns : goal.returns
 returns c = refl

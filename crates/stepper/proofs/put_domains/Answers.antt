@@ -28,6 +28,3 @@ loop-d-smaller c =
 
 pub loop-d-preserved : goal.loop-d-preserved
 loop-d-preserved c = c.put_domain.auto.out ∙ c.loop-d.invariant
-
-pub shape_of-out : goal.shape_of-out
-shape_of-out c = c.loop-d.invariant

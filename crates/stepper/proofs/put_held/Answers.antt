@@ -17,8 +17,5 @@ put-requires c =
 pub loop-d-preserved : goal.loop-d-preserved
 loop-d-preserved c = c.put.auto.out ∙ c.loop-d.invariant
 
-pub shape_of-out : goal.shape_of-out
-shape_of-out c = c.loop-d.invariant
-
 pub returns : goal.returns
 returns c = held_count c.loop-d.out c.loop-d.invariant c.requires

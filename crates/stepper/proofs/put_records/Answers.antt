@@ -31,6 +31,3 @@ loop-c-smaller c =
 
 pub loop-c-preserved : goal.loop-c-preserved
 loop-c-preserved c = c.put.auto.out ∙ c.loop-c.invariant
-
-pub shape_of-out : goal.shape_of-out
-shape_of-out c = c.loop-c.invariant

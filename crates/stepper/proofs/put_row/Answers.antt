@@ -10,14 +10,14 @@ offset_bounds-valid-set c = map_fits c.requires.set_lt_max_file_sets
 
 pub bounds-valid-set : goal.bounds-valid-set
 bounds-valid-set c =
-    set_inside c.args.set c.requires.rows.valid-long
+    set_inside c.args.set c.requires.rows.valid_long
 
 pub offset_bounds-dirty-set : goal.offset_bounds-dirty-set
 offset_bounds-dirty-set c = map_fits c.requires.set_lt_max_file_sets
 
 pub bounds-dirty-set : goal.bounds-dirty-set
 bounds-dirty-set c =
-    set_inside c.args.set c.requires.rows.dirty-long
+    set_inside c.args.set c.requires.rows.dirty_long
 
 pub put-requires : goal.put-requires
 put-requires c =
@@ -37,19 +37,16 @@ put-requires-2 c =
 pub start_of-requires : goal.start_of-requires
 start_of-requires c =
     record {
-      set_le_max_file_sets = le_of_lt c.requires.set_lt_max_file_sets;
-      ways_bound = c.requires.ways_bound;
-    }
+    set_le_max_file_sets = le_of_lt c.requires.set_lt_max_file_sets;
+    ways_bound = c.requires.ways_bound;
+}
 
 pub put_tags-requires : goal.put_tags-requires
-put_tags-requires c = (
-  row_inside c.args.set c.requires.rows c.start_of.ensures.value,
-  tags_room c.args.at c.requires.at_in_bounds c.requires.ways_bound (c.put-2.auto.out ∙ c.put.auto.out),
-)
-
-pub shape_of-out : goal.shape_of-out
-shape_of-out c =
-    c.put_tags.auto.out ∙ c.put-2.auto.out ∙ c.put.auto.out
+put_tags-requires c =
+    record {
+    ways_in_bounds = row_inside c.args.set c.requires.rows c.start_of.ensures.value;
+    ways_in_bounds_2 = tags_room c.args.at c.requires.at_in_bounds c.requires.ways_bound (c.put-2.auto.out ∙ c.put.auto.out);
+}
 
 pub returns : goal.returns
 returns c =

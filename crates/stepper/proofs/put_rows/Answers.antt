@@ -12,16 +12,13 @@ pub loop-set-init : goal.loop-set-init
 loop-set-init c = record { inside = c.requires.from_le_to; behind = le-add_right _ _; long = refl }
 
 pub put_row-next-requires : goal.put_row-next-requires
-put_row-next-requires c = (
-  rows_below (add-one-le c.loop-set-test.true) c.requires.rows,
-  (
-    lt_of_lt_of_le c.loop-set-test.true c.requires.to_le_max_file_sets,
-    (
-      c.requires.ways_bound,
-      row_room c.loop-set.invariant c.loop-set-test.true c.requires.to_le_max_file_sets c.requires.max_file_sets_in_bounds,
-    ),
-  ),
-)
+put_row-next-requires c =
+    record {
+    rows = rows_below (add-one-le c.loop-set-test.true) c.requires.rows;
+    set_lt_max_file_sets = lt_of_lt_of_le c.loop-set-test.true c.requires.to_le_max_file_sets;
+    ways_bound = c.requires.ways_bound;
+    at_in_bounds = row_room c.loop-set.invariant c.loop-set-test.true c.requires.to_le_max_file_sets c.requires.max_file_sets_in_bounds;
+}
 
 pub overflow_add-set : goal.overflow_add-set
 overflow_add-set c =
@@ -34,10 +31,7 @@ loop-set-smaller c =
 pub loop-set-preserved : goal.loop-set-preserved
 loop-set-preserved c =
     let row = c.put_row-next in
-    row_put c.loop-set.invariant c.loop-set-test.true row.ensures row.auto.1.1.1.1.1.1.0
-
-pub shape_of-out : goal.shape_of-out
-shape_of-out c = c.loop-set.invariant.long
+    row_put c.loop-set.invariant c.loop-set-test.true row.ensures row.auto.out
 
 pub returns : goal.returns
 returns c =

@@ -36,8 +36,5 @@ overflow_mul-result c = omega (arith, c.requires.ways_in_bounds_2)
 pub overflow_add-result : goal.overflow_add-result
 overflow_add-result c = omega (arith, c.requires.ways_in_bounds_2)
 
-pub shape_of-out : goal.shape_of-out
-shape_of-out c = c.loop-w.invariant
-
 pub returns : goal.returns
 returns c = refl

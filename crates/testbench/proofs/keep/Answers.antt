@@ -9,6 +9,3 @@ loop-i-init c = refl
 
 pub loop-i-preserved : goal.loop-i-preserved
 loop-i-preserved c = length-set c.loop-i.old c.loop-i.i _ ∙ c.loop-i.invariant
-
-pub shape_of-old : goal.shape_of-old
-shape_of-old c = c.loop-i.invariant

@@ -6,16 +6,19 @@ use Rattle.testbench.proofs.run.Goals as goal
 use Rattle.testbench.proofs.run.Goals.{After-line_after-next}
 
 -- The next line begins further on.
-further : (c : After-line_after-next invariant-loop decreases-loop) → c.before.before.loop.from < c.line_after.result
+further : (c : After-line_after-next) → c.loop-from.from < c.line_after-next.result
 further c =
-    let grows = line_grows c.before.before.before.before.args.text.now c.before.before.loop.from c.before.loop-test.true in
-    omega (arith, grows, c.line_after.ensures.0)
+    let grows = line_grows c.args.text.now c.loop-from.from c.loop-from-test.true in
+    omega (arith, grows, c.line_after-next.ensures.value)
 
 pub slice_bounds-do_line-count : goal.slice_bounds-do_line-count
-slice_bounds-do_line-count c = omega (arith, further c.before.before)
+slice_bounds-do_line-count c = omega (arith, further (goal.at.slice_bounds-do_line-count c).After-line_after-next)
+
+pub slice_bounds-do-line-start : goal.slice_bounds-do-line-start
+slice_bounds-do-line-start c = omega (arith, further (goal.at.slice_bounds-do-line-start c).After-line_after-next)
 
 pub do_line-lent-requires : goal.do_line-lent-requires
-do_line-lent-requires c = omega (arith, further c.before.before.before)
+do_line-lent-requires c = omega (arith, further (goal.at.do_line-lent-requires c).After-line_after-next)
 
 pub loop-from-smaller : goal.loop-from-smaller
-loop-from-smaller c = omega (arith, further c.before.before.before.before)
+loop-from-smaller c = omega (arith, further (goal.at.loop-from-smaller c).After-line_after-next)

@@ -9,6 +9,3 @@ loop-set-init c = refl
 
 pub loop-set-preserved : goal.loop-set-preserved
 loop-set-preserved c = length-set c.loop-set.table c.loop-set.set c.short_at.result ∙ c.loop-set.invariant
-
-pub shape_of-table : goal.shape_of-table
-shape_of-table c = c.loop-set.invariant
