@@ -24,20 +24,20 @@ slice_bounds-arguments-end c = c.if-steps-gt-MAX_STEPS.false
 pub slice_bounds-purge-count-3 : goal.slice_bounds-purge-count-3
 slice_bounds-purge-count-3 c = zero-le
 
-pub slice_bounds-kept-codes-start : goal.slice_bounds-kept-codes-start
-slice_bounds-kept-codes-start c = zero-le
+pub slice_bounds-kept_codes-start : goal.slice_bounds-kept_codes-start
+slice_bounds-kept_codes-start c = zero-le
 
-pub slice_bounds-kept-codes-end : goal.slice_bounds-kept-codes-end
-slice_bounds-kept-codes-end c = c.if-steps-gt-MAX_STEPS.false
+pub slice_bounds-kept_codes-end : goal.slice_bounds-kept_codes-end
+slice_bounds-kept_codes-end c = c.if-steps-gt-MAX_STEPS.false
 
 pub slice_bounds-purge-count-4 : goal.slice_bounds-purge-count-4
 slice_bounds-purge-count-4 c = zero-le
 
-pub slice_bounds-kept-arguments-start : goal.slice_bounds-kept-arguments-start
-slice_bounds-kept-arguments-start c = zero-le
+pub slice_bounds-kept_arguments-start : goal.slice_bounds-kept_arguments-start
+slice_bounds-kept_arguments-start c = zero-le
 
-pub slice_bounds-kept-arguments-end : goal.slice_bounds-kept-arguments-end
-slice_bounds-kept-arguments-end c = c.if-steps-gt-MAX_STEPS.false
+pub slice_bounds-kept_arguments-end : goal.slice_bounds-kept_arguments-end
+slice_bounds-kept_arguments-end c = c.if-steps-gt-MAX_STEPS.false
 
 pub purge-requires : goal.purge-requires
 purge-requires c =

@@ -13,8 +13,7 @@ split-requires c =
 pub show-requires : goal.show-requires
 show-requires c =
     let few = c.if-n-count.false in
-    let room = c.requires.1.1 in
     record {
-    count_in_bounds = le_trans few (le_trans room.0 (le_of_eq (sym c.purge_trace-purged.auto.kept_codes)));
-    count_in_bounds_2 = le_trans few (le_trans room.1 (le_of_eq (sym c.purge_trace-purged.auto.kept_arguments)));
+    count_in_bounds = le_trans few (le_trans c.requires.n_in_bounds_3 (le_of_eq (sym c.purge_trace-purged.auto.kept_codes)));
+    count_in_bounds_2 = le_trans few (le_trans c.requires.n_in_bounds_4 (le_of_eq (sym c.purge_trace-purged.auto.kept_arguments)));
 }

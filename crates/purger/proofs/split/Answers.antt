@@ -28,16 +28,16 @@ overflow_cast-place c =
     place_fits c.loop-i-test.true c.ranges.n
 
 pub offset_bounds-codes-place : goal.offset_bounds-codes-place
-offset_bounds-codes-place c = offset-fits (lit≤ tt) c.loop-i-test.true c.fits.n
+offset_bounds-codes-place c = offset-fits (lit≤ tt) c.loop-i-test.true c.ranges.n
 
 pub bounds-codes-place : goal.bounds-codes-place
-bounds-codes-place c = within c.loop-i-test.true c.pre.0 c.loop-i.invariant.0
+bounds-codes-place c = within c.loop-i-test.true c.requires.n_in_bounds c.loop-i.invariant.0
 
 pub offset_bounds-arguments-place : goal.offset_bounds-arguments-place
-offset_bounds-arguments-place c = offset-fits (lit≤ tt) c.loop-i-test.true c.fits.n
+offset_bounds-arguments-place c = offset-fits (lit≤ tt) c.loop-i-test.true c.ranges.n
 
 pub bounds-arguments-place : goal.bounds-arguments-place
-bounds-arguments-place c = within c.loop-i-test.true c.pre.1 c.loop-i.invariant.1
+bounds-arguments-place c = within c.loop-i-test.true c.requires.n_in_bounds_2 c.loop-i.invariant.1
 
 pub overflow_add-i : goal.overflow_add-i
 overflow_add-i c =

@@ -14,4 +14,4 @@ loop-i-smaller c =
 pub loop-i-preserved : goal.loop-i-preserved
 loop-i-preserved c =
     let kept = c.loop-i.invariant in
-    (c.take-shown.auto.i ∙ kept.0, (c.take-shown.auto.tags ∙ kept.1.0, (c.take-shown.auto.valid ∙ kept.1.1.0, c.take-shown.auto.dirty ∙ kept.1.1.1)))
+    (c.take-shown.auto.tags ∙ kept.0, (c.take-shown.auto.valid ∙ kept.1.0, (c.take-shown.auto.dirty ∙ kept.1.1.0, c.take-shown.auto.words ∙ kept.1.1.1)))

@@ -7,9 +7,9 @@ pub show-shown-requires : goal.show-shown-requires
 show-shown-requires c =
     let span = c.span_of-span.ensures in
     record {
-    rows = rows_below span.1 c.requires.rows;
-    from_le_to = span.0;
-    to_le_max_file_sets = le_trans span.1 c.requires.small.few_sets;
+    rows = rows_below span.to_le_sets c.requires.rows;
+    from_le_to = span.from_le_to;
+    to_le_max_file_sets = le_trans span.to_le_sets c.requires.small.few_sets;
     ways_bound = c.requires.small.few_ways;
     max_file_sets_in_bounds = c.requires.max_file_sets_in_bounds;
 }

@@ -27,11 +27,11 @@ pub loop-i-preserved : goal.loop-i-preserved
 loop-i-preserved c =
     let kept = c.loop-i.invariant in
     record {
-      tags_same = c.block-shown.auto.i ∙ kept.tags_same;
-      valid_same = c.block-shown.auto.tags ∙ kept.valid_same;
-      dirty_same = c.block-shown.auto.valid ∙ kept.dirty_same;
-      words_same = c.block-shown.auto.dirty ∙ kept.words_same;
-      out_same = c.block-shown.auto.before ∙ kept.out_same;
+      tags_same = c.block-shown.auto.tags ∙ kept.tags_same;
+      valid_same = c.block-shown.auto.valid ∙ kept.valid_same;
+      dirty_same = c.block-shown.auto.dirty ∙ kept.dirty_same;
+      words_same = c.block-shown.auto.words ∙ kept.words_same;
+      out_same = c.block-shown.auto.out ∙ kept.out_same;
     }
 
 pub show_held-held-requires : goal.show_held-held-requires
