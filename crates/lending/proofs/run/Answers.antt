@@ -14,8 +14,8 @@ further c =
 pub slice_bounds-do_line-count : goal.slice_bounds-do_line-count
 slice_bounds-do_line-count c = omega (arith, further (goal.at.slice_bounds-do_line-count c).After-line_after-next)
 
-pub slice_bounds-do-line-start : goal.slice_bounds-do-line-start
-slice_bounds-do-line-start c = omega (arith, further (goal.at.slice_bounds-do-line-start c).After-line_after-next)
+pub slice_bounds-do_line-start : goal.slice_bounds-do_line-start
+slice_bounds-do_line-start c = omega (arith, further (goal.at.slice_bounds-do_line-start c).After-line_after-next)
 
 pub do_line-bench-requires : goal.do_line-bench-requires
 do_line-bench-requires c = omega (arith, further (goal.at.do_line-bench-requires c).After-line_after-next)

@@ -43,8 +43,8 @@ pub purge-requires : goal.purge-requires
 purge-requires c =
     let n = c.steps-n.result in
     record {
-    n_in_bounds = front_long n c.codes-1.given.1;
-    n_in_bounds_2 = front_long n c.arguments-1.given.1;
-    n_in_bounds_3 = front_long n c.kept_codes-1.given.1;
-    n_in_bounds_4 = front_long n c.kept_arguments-1.given.1;
-}
+      n_in_bounds = front_long n c.codes-1.given.1;
+      n_in_bounds_2 = front_long n c.arguments-1.given.1;
+      n_in_bounds_3 = front_long n c.kept_codes-1.given.1;
+      n_in_bounds_4 = front_long n c.kept_arguments-1.given.1;
+    }

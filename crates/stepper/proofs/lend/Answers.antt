@@ -46,12 +46,12 @@ pub run-requires : goal.run-requires
 run-requires c =
     let sets = c.args.g.sets in
     record {
-    small = c.requires.small;
-    rows = record {
-          tags_long = le_trans (le_of_eq (sym c.requires.cells_value)) (front_long c.args.cells c.tags-1.given.1);
-          valid_long = front_long sets c.valid-1.given.1;
-          dirty_long = front_long sets c.dirty-1.given.1;
-          words_long = front_long sets c.words-1.given.1;
-        };
-    max_file_sets_in_bounds = search rules;
-}
+      small = c.requires.small;
+      rows = record {
+        tags_long = le_trans (le_of_eq (sym c.requires.cells_value)) (front_long c.args.cells c.tags-1.given.1);
+        valid_long = front_long sets c.valid-1.given.1;
+        dirty_long = front_long sets c.dirty-1.given.1;
+        words_long = front_long sets c.words-1.given.1;
+      };
+      max_file_sets_in_bounds = search rules;
+    }

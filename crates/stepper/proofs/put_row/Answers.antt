@@ -37,16 +37,16 @@ put-requires-2 c =
 pub start_of-requires : goal.start_of-requires
 start_of-requires c =
     record {
-    set_le_max_file_sets = le_of_lt c.requires.set_lt_max_file_sets;
-    ways_bound = c.requires.ways_bound;
-}
+      set_le_max_file_sets = le_of_lt c.requires.set_lt_max_file_sets;
+      ways_bound = c.requires.ways_bound;
+    }
 
 pub put_tags-requires : goal.put_tags-requires
 put_tags-requires c =
     record {
-    ways_in_bounds = row_inside c.args.set c.requires.rows c.start_of.ensures.value;
-    ways_in_bounds_2 = tags_room c.args.at c.requires.at_in_bounds c.requires.ways_bound (c.put-2.auto.out ∙ c.put.auto.out);
-}
+      ways_in_bounds = row_inside c.args.set c.requires.rows c.start_of.ensures.value;
+      ways_in_bounds_2 = tags_room c.args.at c.requires.at_in_bounds c.requires.ways_bound (c.put-2.auto.out ∙ c.put.auto.out);
+    }
 
 pub returns : goal.returns
 returns c =

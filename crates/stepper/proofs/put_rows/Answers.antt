@@ -14,11 +14,11 @@ loop-set-init c = record { inside = c.requires.from_le_to; behind = le-add_right
 pub put_row-next-requires : goal.put_row-next-requires
 put_row-next-requires c =
     record {
-    rows = rows_below (add-one-le c.loop-set-test.true) c.requires.rows;
-    set_lt_max_file_sets = lt_of_lt_of_le c.loop-set-test.true c.requires.to_le_max_file_sets;
-    ways_bound = c.requires.ways_bound;
-    at_in_bounds = row_room c.loop-set.invariant c.loop-set-test.true c.requires.to_le_max_file_sets c.requires.max_file_sets_in_bounds;
-}
+      rows = rows_below (add-one-le c.loop-set-test.true) c.requires.rows;
+      set_lt_max_file_sets = lt_of_lt_of_le c.loop-set-test.true c.requires.to_le_max_file_sets;
+      ways_bound = c.requires.ways_bound;
+      at_in_bounds = row_room c.loop-set.invariant c.loop-set-test.true c.requires.to_le_max_file_sets c.requires.max_file_sets_in_bounds;
+    }
 
 pub overflow_add-set : goal.overflow_add-set
 overflow_add-set c =

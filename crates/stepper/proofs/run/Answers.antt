@@ -14,10 +14,10 @@ block-shown-requires c =
     let rows = rows_kept (kept.tags_same ∙ c.fresh_tables.auto.tags) (kept.valid_same ∙ c.fresh_tables.auto.valid) (kept.dirty_same ∙ c.fresh_tables.auto.dirty)
     (kept.words_same ∙ c.fresh_tables.auto.words) c.requires.rows in
     record {
-    small = c.requires.small;
-    rows = rows;
-    max_file_sets_in_bounds = le_trans c.requires.max_file_sets_in_bounds (le_of_eq (sym kept.out_same));
-}
+      small = c.requires.small;
+      rows = rows;
+      max_file_sets_in_bounds = le_trans c.requires.max_file_sets_in_bounds (le_of_eq (sym kept.out_same));
+    }
 
 pub loop-i-smaller : goal.loop-i-smaller
 loop-i-smaller c =

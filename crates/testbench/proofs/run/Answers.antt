@@ -14,6 +14,9 @@ further c =
 pub slice_bounds-do_line-count : goal.slice_bounds-do_line-count
 slice_bounds-do_line-count c = omega (arith, further (goal.at.slice_bounds-do_line-count c).After-line_after-next)
 
+pub slice_bounds-do_line-start : goal.slice_bounds-do_line-start
+slice_bounds-do_line-start c = omega (arith, further (goal.at.slice_bounds-do_line-start c).After-line_after-next)
+
 pub do_line-lent-requires : goal.do_line-lent-requires
 do_line-lent-requires c = omega (arith, further (goal.at.do_line-lent-requires c).After-line_after-next)
 
