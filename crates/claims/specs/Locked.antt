@@ -37,8 +37,8 @@ abbrev pub NoSeven : Geometry → ℕ → List Command → State → Type 0
 NoSeven g d cs s = EachAnswer g (belongs d) (λ a. number_of a ≡ 7 → ⊥) cs s
 
 -- What stands at the end of a list: the domain's record, its policy as read, and a set's row.
-abbrev pub field_own : Geometry → ℕ → List Command → State → Domain
-field_own g d cs s = domain_of (finally g cs s).domains d
+abbrev pub own_at : Geometry → ℕ → List Command → State → Domain
+own_at g d cs s = domain_of (finally g cs s).domains d
 
 abbrev pub policy_at : Geometry → ℕ → List Command → State → Maps
 policy_at g d cs s = policies g.ways (finally g cs s).domains d
@@ -49,15 +49,15 @@ set_at g i cs s = row_at g.ways i (finally g cs s).tables
 -- A list and the same without the domain's accesses to its locked lines.
 pub record Unmoved (g : Geometry) (d : ℕ) (cs : List Command) (s : State) : Type 0 where
   pub answers : answers_to (otherwise g d s) cs (answers_of g cs s) ≡ answers_to (belongs d) (rest g d s cs) (answers_of g (rest g d s cs) s)
-  pub hit_map : (field_own g d cs s).hit ≡ (field_own g d (rest g d s cs) s).hit
-  pub fill_map : (field_own g d cs s).fill ≡ (field_own g d (rest g d s cs) s).fill
-  pub hits : (field_own g d cs s).counts.hits ≡ (field_own g d (rest g d s cs) s).counts.hits + (length cs - length (rest g d s cs))
-  pub misses : (field_own g d cs s).counts.misses ≡ (field_own g d (rest g d s cs) s).counts.misses
-  pub evicted : (field_own g d cs s).counts.evicted ≡ (field_own g d (rest g d s cs) s).counts.evicted
-  pub written : (field_own g d cs s).counts.written ≡ (field_own g d (rest g d s cs) s).counts.written
-  pub flushed : (field_own g d cs s).counts.flushed ≡ (field_own g d (rest g d s cs) s).counts.flushed
-  pub fills : (field_own g d cs s).counts.fills ≡ (field_own g d (rest g d s cs) s).counts.fills
-  pub dropped : (field_own g d cs s).counts.dropped ≡ (field_own g d (rest g d s cs) s).counts.dropped
+  pub hit_map : (own_at g d cs s).hit ≡ (own_at g d (rest g d s cs) s).hit
+  pub fill_map : (own_at g d cs s).fill ≡ (own_at g d (rest g d s cs) s).fill
+  pub hits : (own_at g d cs s).counts.hits ≡ (own_at g d (rest g d s cs) s).counts.hits + (length cs - length (rest g d s cs))
+  pub misses : (own_at g d cs s).counts.misses ≡ (own_at g d (rest g d s cs) s).counts.misses
+  pub evicted : (own_at g d cs s).counts.evicted ≡ (own_at g d (rest g d s cs) s).counts.evicted
+  pub written : (own_at g d cs s).counts.written ≡ (own_at g d (rest g d s cs) s).counts.written
+  pub flushed : (own_at g d cs s).counts.flushed ≡ (own_at g d (rest g d s cs) s).counts.flushed
+  pub fills : (own_at g d cs s).counts.fills ≡ (own_at g d (rest g d s cs) s).counts.fills
+  pub dropped : (own_at g d cs s).counts.dropped ≡ (own_at g d (rest g d s cs) s).counts.dropped
   pub valid : (i w : ℕ) → i < g.sets → bit (policy_at g d cs s).hit w ≡ true
       → bit (set_at g i cs s).valid w ≡ bit (set_at g i (rest g d s cs) s).valid w
   pub tags : (i w : ℕ) → i < g.sets → bit (policy_at g d cs s).hit w ≡ true
