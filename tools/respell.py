@@ -21,6 +21,7 @@ USE = re.compile(r"^(?:pub )?(?:ghost )?use ([\w.◌-]+?)(?:\.\{([^}]*)\}| as (\
 TICKED = re.compile(r"`([^`\n]+)`")
 LIBRARY = "lru"  # a crate of ours that the kit has a library of the same name of
 CRATE = "lru_rule"
+GARBLED = {"claims": {"field_own": "own_at", "ownAt": "own_at"}}  # names of ours that port.py takes for the kit's, by crate
 RESULTS = {"row": "effect_of", "replacement": "outcome_of"}  # `result` is a word of clauses now
 RESERVED = {"open", "data", "record", "use", "search", "grind", "simp", "omega", "rw", "cc", "in", "as", "where"}
 
@@ -169,6 +170,16 @@ def last_camels() -> None:
         path.write_text("\n".join(lines))
 
 
+def mend_garbled() -> None:
+    """Names of ours that port.py took for names of the kit."""
+    for crate, names in GARBLED.items():
+        for path in [*ROOT.glob(f"crates/{crate}/**/*.antt"), *ROOT.glob(f"crates/{crate}/must-fail/*.edit")]:
+            text = path.read_text()
+            new = re.sub("|".join(rf"\b{n}\b" for n in names), lambda m: names[m[0]], text)
+            if new != text:
+                path.write_text(new)
+
+
 def move_crate() -> None:
     """The crate that the kit has a library of the same name of, under another name."""
     (ROOT / "crates" / LIBRARY).rename(ROOT / "crates" / CRATE)
@@ -279,6 +290,7 @@ def main() -> None:
     for path in [ROOT / "README.md", *sorted(ROOT.glob("docs/*.md")), *sorted(ROOT.glob("docs/changes/*.md"))]:
         path.write_text(by_ticks(path.read_text(), turned, final))
     last_camels()
+    mend_garbled()
     move_crate()
     for name, new in sorted(turned.items()):
         if new.endswith("_lem"):
