@@ -28,7 +28,8 @@ RESERVED = {"open", "data", "record", "use", "search", "grind", "simp", "omega",
 
 def snake(name: str) -> str:
     if name[0].islower():
-        name = re.sub(r"([a-z0-9])([A-Z])", lambda m: m[1] + "_" + m[2].lower(), name)
+        name = re.sub(r"([a-z0-9])([A-Z])(?=([A-Z]?))", lambda m: f"{m[1]}_{m[2].lower()}" + ("_" if m[3] else ""), name)
+        name = re.sub(r"_([A-Z])", lambda m: "_" + m[1].lower(), name)
     return name.replace("-", "_")
 
 

@@ -125,11 +125,11 @@ of_cores =
     ∷ []
 
 -- "where no list is lent these kinds stay unknown": 4 by domain 0, and 3 by domain 16
-abbrev without_aList : ℕ → List Case
-without_aList kind = still (plru 1 2) (does 0 kind 320) lent (refused 4) ∷ still (plru 1 2) (does 16 kind 320) lent (refused 3) ∷ []
+abbrev without_a_list : ℕ → List Case
+without_a_list kind = still (plru 1 2) (does 0 kind 320) lent (refused 4) ∷ still (plru 1 2) (does 16 kind 320) lent (refused 3) ∷ []
 
 abbrev no_list : List Case
-no_list = without_aList 32 ++ (without_aList 33 ++ (without_aList 34 ++ (without_aList 35 ++ without_aList 40)))
+no_list = without_a_list 32 ++ (without_a_list 33 ++ (without_a_list 34 ++ (without_a_list 35 ++ without_a_list 40)))
 
 -- "these kinds" are 32 to 35 and 40, and no other: of each kind from 31 to 41; and lists of steps without them.
 abbrev flag : Bool → ℕ
