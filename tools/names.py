@@ -16,7 +16,7 @@ A source has the names that its contracts cite too, and a crate is in its own fi
 
 import re
 
-from pages import Paths, SPAN, listed_crates
+from pages import Paths, SPAN, below, listed_crates
 
 NAME = re.compile(r"[A-Za-z][\w-]*")
 CALL = re.compile(r"([a-z_]\w*)::([A-Za-z_]\w*)")
@@ -64,8 +64,9 @@ class Names:
         """The names defined in a file; of one in another language, every word; of a directory, those of its files."""
         if path not in self.read:
             if path.is_dir():
-                files = [file for pattern in ("*.antt", "*.rt") for file in sorted(path.rglob(pattern))]
-                self.read[path] = {file.stem for file in path.rglob("*.edit")}.union(*map(self.inside, files))
+                files = list(below(path))
+                texts = [file for file in files if file.suffix in (".antt", ".rt")]
+                self.read[path] = {file.stem for file in files if file.suffix == ".edit"}.union(*map(self.inside, texts))
             elif path.suffix in (".antt", ".rt"):
                 self.read[path] = declared_in(path)
             else:
