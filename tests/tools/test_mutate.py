@@ -2,6 +2,7 @@
 
 import pathlib
 import sys
+import tempfile
 import unittest
 
 sys.dont_write_bytecode = True
@@ -130,6 +131,14 @@ class Copying(unittest.TestCase):
         self.assertEqual(copying.turned(line), "use Rattle.model.specs.LruRuleLru as Lru")
         line = "use Rattle.std.specs.Prelude.{ℕ}"
         self.assertEqual(copying.turned(line), line)
+
+    def test_types_of_a_source_are_taken(self):
+        text = "use command::{Answer, Asked};\nuse crate::path;\n\n#[derive(Clone, Copy)]\npub struct Stepped {\n    pub answer: Answer,\n}\n\nfn step() {}\n"
+        with tempfile.TemporaryDirectory() as name:
+            folder = pathlib.Path(name)
+            (folder / "lib.rt").write_text(text)
+            made = copying.declared("cache", folder)
+        self.assertEqual(made, {"cache": "use crate::command::Answer;\n\npub struct Stepped {\n    pub answer: Answer,\n}\n"})
 
     def test_closed_equations_are_taken(self):
         uses = "use Rattle.std.proofs.Common.{refl}\nuse Rattle.tree.proofs.TreeLaws.{f_known}\n"
