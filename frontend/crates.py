@@ -1,7 +1,7 @@
 """Which source files a program is made of, by crates.txt, and which of them was written last.
 
 Only `src` counts: specs and proofs decide whether a program is proved, not what it does. Time stamps decide, so that a file put
-in place with an old time is not noticed; whether anything changed is then for `rt check` to say, which goes by contents."""
+in place with an old time is not noticed; whether anything changed is then for `rt run` to say, which goes by contents."""
 from __future__ import annotations
 
 from pathlib import Path
@@ -23,7 +23,7 @@ def _listed(root: Path) -> dict[str, list[str]]:
     except FileNotFoundError:
         return {}
     lines = (line.partition("#")[0].partition(":") for line in text.splitlines())
-    return {name.strip(): rest.split() for name, colon, rest in lines if colon}
+    return {head.strip().partition(" ")[0]: rest.split() for head, colon, rest in lines if colon}  # `staticlib` may stand behind
 
 
 def _needed(listed: dict[str, list[str]], program: str) -> list[str]:

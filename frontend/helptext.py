@@ -9,7 +9,7 @@ ABOUT = """\
 A cache whose ways are divided among domains: run traces on the proved model.
 
 Every answer comes from the proved programs in target/bin. Those that a command
-needs are built with 'rt check' where they are missing or older than their
+needs are built with 'rt run' where they are missing or older than their
 sources. This front end sees that what they say is whole, and formats it.
 """
 

@@ -7,6 +7,7 @@ import reading
 from reading import Clause, Node
 
 WORDS = {"ltb": "leb", "leb": "ltb", "true": "false", "false": "true", "take": "drop", "drop": "take"}
+WORDS |= {"nat_lt": "nat_le", "nat_le": "nat_lt"}
 WORDS |= {"left": "right", "right": "left", "old": "new", "new": "old"}
 SIGNS = {"&&": "||", "||": "&&", "+": "-", "-": "+", "*": "+", "/": "%", "%": "/", "^": "*"}
 SIBLINGS = (
@@ -23,12 +24,8 @@ SIBLINGS = (
     ("own", "writes"),
     ("codes", "arguments"),
 )
-HOMES = {
-    "mathlib.Core.Bool": ("not", "true", "false", "_&&_", "_||_"),
-    "Prim.Native.Nat": ("_+_", "_-_", "_*_", "_/_", "_%_"),
-    "lib.Dec": ("leb", "ltb"),
-    "lib.ListN": ("take", "drop"),
-}
+HOME = "Rattle.std.specs.Prelude"  # where the names are had from that a change may bring
+BROUGHT = ("not", "true", "false", "◌&&◌", "◌||◌", "◌+◌", "◌-◌", "◌*◌", "◌/◌", "◌%◌", "leb", "ltb", "nat_le", "nat_lt", "take", "drop")
 
 
 @dataclasses.dataclass(frozen=True)
@@ -44,7 +41,8 @@ class Change:
     def applied(self, text: str) -> str:
         """The file's text with the change, and with the names that it needs brought in."""
         changed = text[: self.start] + self.new + text[self.end :]
-        uses = "".join(f"use {home}.{{{name}}}\n" for home, name in _missing(text, self.new))
+        names = _missing(text, self.new)
+        uses = f"use {HOME}.{{{', '.join(names)}}}\n" if names else ""
         at = re.search(r"^use ", changed, re.M)
         return changed if not uses or not at else changed[: at.start()] + uses + changed[at.start() :]
 
@@ -61,16 +59,16 @@ def _cut(text: str) -> str:
     return text if len(text) <= 160 else text[:78] + " … " + text[-78:]
 
 
-def _missing(text: str, new: str) -> list[tuple[str, str]]:
+def _missing(text: str, new: str) -> list[str]:
     """The names that a change brings and its file does not."""
-    brought = set(re.findall(r"[\w&|+*/%·-]+", " ".join(re.findall(r"^use [^{\n]*\{([^}]*)\}", text, re.M))))
+    lists = re.findall(r"^use [^{\n]*\{([^}]*)\}", text, re.M)
+    there = {item.split()[-1] for names in lists for item in names.split(",") if item.strip()}
     found = []
-    for home, names in HOMES.items():
-        for name in names:
-            plain = re.escape(name.strip("_"))
-            pattern = rf"(?<!\S){plain}(?!\S)" if name.startswith("_") else rf"(?<![\w.-]){plain}(?![\w-])"
-            if name not in brought and re.search(pattern, new):
-                found.append((home, name))
+    for name in BROUGHT:
+        plain = re.escape(name.strip("◌"))
+        pattern = rf"(?<!\S){plain}(?!\S)" if name.startswith("◌") else rf"(?<![\w.'-]){plain}(?![\w'-])"
+        if name not in there and re.search(pattern, new):
+            found.append(name)
     return found
 
 
@@ -89,6 +87,10 @@ class Changes:
 
     def of(self, node: Node) -> str:
         return self.text[node.start : node.end]
+
+    def argument(self, node: Node) -> str:
+        """A part as it may stand as an argument."""
+        return f"({self.of(node)})" if node.kind in ("call", "binary", "lambda", "let", "record") else self.of(node)
 
     def clause(self, clause: Clause) -> None:
         self.name = clause.name
@@ -132,25 +134,18 @@ class Changes:
             self.add(node, self.of(right), "dropped")
         if sign in ("-", "/", "%", "++"):
             self.add(node, f"{self.of(right)} {sign} {self.of(left)}", "exchanged")
+        if sign == "==":
+            self._equal(node, f"{self.of(left)} == {self.of(right)}", left, right)
 
     def _call(self, node: Node) -> None:
         head, rest = node.parts[0], node.parts[1:]
         name = head.token.text if head.kind == "name" else ""
-        group: list[Node] = []
-        groups = [group]
-        for part in rest:
-            if part.kind == "field":
-                groups.append([])
-            else:
-                groups[-1].append(part)
-        args = groups[0]
         if name == "cond" and len(rest) == 3:
-            self._cond(node, args)
+            self._cond(node, rest)
         elif name in ("eqb", "not", "xor", "suc"):
-            self._test(node, name, args)
+            self._test(node, name, rest)
         else:
-            for group in groups:
-                self._exchange(group)
+            self._exchange(rest)
 
     def _cond(self, node: Node, args: list[Node]) -> None:
         test, yes, no = (self.of(a) for a in args)
@@ -161,15 +156,19 @@ class Changes:
     def _test(self, node: Node, name: str, args: list[Node]) -> None:
         of = [self.of(a) for a in args]
         if name == "eqb" and len(of) == 2:
-            self.add(node, f"not (eqb {of[0]} {of[1]})", "negated")
-            for one, two in (of, of[::-1]):
-                if two != "0":  # a number that is at most 0 is 0
-                    self.add(node, f"leb {one} {two}", "word")
+            self._equal(node, f"eqb {of[0]} {of[1]}", *args)
         elif name in ("not", "suc") and len(of) == 1:
             self.add(node, of[0], "dropped")
         elif name == "xor" and len(of) == 2:
             self.add(node, f"({of[0]} || {of[1]})", "operator")
             self.add(node, f"({of[0]} && {of[1]})", "operator")
+
+    def _equal(self, node: Node, test: str, left: Node, right: Node) -> None:
+        self.add(node, f"not ({test})", "negated")
+        of = [self.argument(left), self.argument(right)]
+        for one, two in (of, of[::-1]):
+            if two != "0":  # a number that is at most 0 is 0
+                self.add(node, f"leb {one} {two}", "word")
 
     def _exchange(self, args: list[Node]) -> None:
         for one, two in zip(args, args[1:]):
@@ -182,7 +181,7 @@ class Changes:
     def _plain(node: Node) -> bool:
         if node.kind == "paren":
             return node.parts[0].kind not in ("lambda", "record")
-        return node.kind in ("name", "number", "empty")
+        return node.kind in ("name", "number", "empty", "projection")
 
 
 def changes(text: str) -> list[Change]:

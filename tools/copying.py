@@ -17,24 +17,23 @@ COMPUTED = ("Computing", "WorkedCases", "Witness")
 SKIPPED = ("stepper",)
 
 ITEM = re.compile(r"^(?:pub )?(?:struct|enum)\b[^{(;]*(?:\{.*?^\}|\(.*?\);)", re.S | re.M)
-USE = re.compile(r"^use ((?:\w+::)+)(\w+);$", re.M)
-PLACE = re.compile(r"Rattle·(\w+)(?:·specs\.specs|·proofs\.proofs|\.specs|\.proofs)\.([\w·-]+(?:\.[\w·-]+)*)")
+USE = re.compile(r"^use ((?:\w+::)+)(\w+|\{[^{}]*\});$", re.M)
+PLACE = re.compile(r"Rattle\.(?!std\.)(\w+)\.(specs|proofs)\.([\w-]+(?:\.[\w-]+)*)")
 LIST = re.compile(r"^(abbrev|unfoldable) (?:pub )?(\w+) : (ℕ → )?List Case$", re.M)
 JOINED = re.compile(r"(?:[\w\s()]|\+\+)*")
-USED = re.compile(r"^use ([\w·.]+?)(?:\.\{([^}]*)\}| as (\w+))$", re.M)
-NAMED = re.compile(rf"Rattle·{CRATE}·(specs|proofs)\.\1\.(\w+)")
+USED = re.compile(r"^use ([\w.]+?)(?:\.\{([^}]*)\}| as (\w+))$", re.M)
+NAMED = re.compile(rf"Rattle\.{CRATE}\.(specs|proofs)\.(\w+)")
+OWN_PROOFS = re.compile(r"use Rattle\.(?!std\.)\w+\.proofs\.|use borrow")
 CLOSED = re.compile(r"(?:pub )?([\w-]+) : ([^→]*?)\n(unfolding [^=]*?\n)?\1 = [\s(),]*refl(?:[\s(),]|refl)*\Z")
 
-HEAD = f"""use mathlib.Core.Path.{{_≡_, refl}}
-use mathlib.Core.List.{{map}}
-use Prim.Native.Nat.{{ℕ}}
-use Rattle·{CRATE}·specs.specs.CasesCase.{{Case}}
+HEAD = f"""use Rattle.std.specs.Prelude.{{◌≡◌, ℕ, map, refl}}
+use Rattle.{CRATE}.specs.CasesCase.{{Case}}
 """
 
 
 def module_name(crate: str, name: str) -> str:
     """The name in the copy of a crate's module."""
-    return crate.capitalize() + name
+    return "".join(word.capitalize() for word in crate.split("_")) + name
 
 
 class Source:
@@ -47,7 +46,7 @@ class Source:
     def _listed(self) -> list[str]:
         names = []
         for line in (self.root / "crates.txt").read_text().splitlines():
-            name = line.split("#")[0].partition(":")[0].strip()
+            name = line.split("#")[0].partition(":")[0].strip().partition(" ")[0]  # `staticlib` may stand behind it
             if name and name not in SKIPPED and (self.root / "crates" / name / "specs").is_dir():
                 names.append(name)
         return names
@@ -67,15 +66,14 @@ def turned(text: str) -> str:
 
 
 def _turned_place(found: re.Match) -> str:
-    crate, path = found[1], found[2]
+    crate, side, path = found[1], found[2], found[3]
     if path.startswith("declared."):
         parts = path.split(".")
-        inner = [p for p in parts[1:] if p[0].islower() and p != "the-variants"]
+        inner = [p for p in parts[1:] if p[0].islower()]
         module = "_".join([crate] + inner)
         rest = ".".join(p for p in parts[1:] if p not in inner)
-        return f"Rattle·{CRATE}·specs.specs.declared.{module}.{rest}"
-    side = "proofs" if "proofs" in found[0][: -len(path)] else "specs"
-    return f"Rattle·{CRATE}·{side}.{side}.{crate.capitalize()}{path}"
+        return f"Rattle.{CRATE}.specs.declared.{module}.{rest}"
+    return f"Rattle.{CRATE}.{side}.{module_name(crate, path)}"
 
 
 def computed_in(text: str) -> str:
@@ -86,7 +84,7 @@ def computed_in(text: str) -> str:
     if not kept:
         return ""
     uses = re.findall(r"^use (?:[^{\n]*|[^{\n]*\{[^}]*\})$", text, re.M)
-    uses = [u for u in uses if "proofs" not in u and not u.startswith("use borrow")]
+    uses = [u for u in uses if not OWN_PROOFS.match(u)]
     return "\n\n".join(["-- Computed.\n" + "\n".join("use " + u.removeprefix("use ") for u in uses)] + kept) + "\n"
 
 
@@ -99,7 +97,8 @@ def declared(crate: str, folder: pathlib.Path) -> dict[str, str]:
         if not items:
             continue
         body = "\n\n".join(i if i.startswith("pub") else "pub " + i for i in items)
-        uses = [_use_line(crate, m[1], m[2]) for m in USE.finditer(text) if re.search(rf"\b{m[2]}\b", body)]
+        brought = [(m[1], n) for m in USE.finditer(text) for n in re.findall(r"\w+", m[2])]
+        uses = [_use_line(crate, path, n) for path, n in brought if re.search(rf"\b{n}\b", body)]
         name = crate if file.stem in ("lib", "main") else f"{crate}_{file.stem}"
         modules[name] = "\n".join(uses + [""] + [body]) + "\n"
     return modules
@@ -152,9 +151,9 @@ def case_theorems(made: "Made", module: str, opening: list[tuple[str, str]]) -> 
         if not body or JOINED.fullmatch(body[1]):
             continue
         given = f"({name} u)" if number else name
-        sides = (f"map (λ (c : Case). c .{side}) {given}" for side in ("given", "printed"))
+        sides = (f"map (λ (c : Case). c.{side}) {given}" for side in ("given", "printed"))
         found[f"{module}{name.capitalize()}"] = (
-            f"{HEAD}{uses}use Rattle·{CRATE}·specs.specs.{module}.{{{name}}}\n\n"
+            f"{HEAD}{uses}use Rattle.{CRATE}.specs.{module}.{{{name}}}\n\n"
             f"pub worked : (u : ℕ) → {' ≡ '.join(sides)}\n"
             f"unfolding {names}{' ' + name if kind == 'unfoldable' else ''}\nworked u = refl\n"
         )

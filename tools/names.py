@@ -1,7 +1,7 @@
 """The names that pages cite, for tools/verify: that they are defined, and in the file named beside them.
 
 In docs/CLAIMS.md every name in a code span is to be defined somewhere under crates/, in a specification, a proof or a
-source, or to be a must-fail edit, a crate, or a word of WORDS. On every page but the notes in docs/changes:
+source, or to be a must-fail edit, a crate, or a word of WORDS. On every page but the notes in docs/changes and docs/PORT.md:
 
   `a`, `b` in `file`        both are defined in that file; so too with a comma or a bracket before the file, and with
                             more files behind it, `a` in `file` and in `other`
@@ -16,7 +16,7 @@ A source has the names that its contracts cite too, and a crate is in its own fi
 
 import re
 
-from pages import Paths, SPAN, listed_crates
+from pages import Paths, SPAN, below, listed_crates
 
 NAME = re.compile(r"[A-Za-z][\w-]*")
 CALL = re.compile(r"([a-z_]\w*)::([A-Za-z_]\w*)")
@@ -64,8 +64,9 @@ class Names:
         """The names defined in a file; of one in another language, every word; of a directory, those of its files."""
         if path not in self.read:
             if path.is_dir():
-                files = [file for pattern in ("*.antt", "*.rt") for file in sorted(path.rglob(pattern))]
-                self.read[path] = {file.stem for file in path.rglob("*.edit")}.union(*map(self.inside, files))
+                files = list(below(path))
+                texts = [file for file in files if file.suffix in (".antt", ".rt")]
+                self.read[path] = {file.stem for file in files if file.suffix == ".edit"}.union(*map(self.inside, texts))
             elif path.suffix in (".antt", ".rt"):
                 self.read[path] = declared_in(path)
             else:

@@ -1,8 +1,8 @@
 """The pages' links, paths and lists, for tools/verify: that what they lead to and name is there.
 
 A page is README.md, a Markdown file under docs/, or a README.md under examples/. Each check is given the pages, and
-gives how many things it looked at and a line for each fault. Notes in docs/changes tell of a time, and may name what
-is gone: of them the links are checked, and nothing else.
+gives how many things it looked at and a line for each fault. Notes in docs/changes, and docs/PORT.md, tell of a time,
+and may name what is gone: of them the links are checked, and nothing else.
 """
 
 import os
@@ -20,6 +20,7 @@ FILE_NAME = re.compile(r"[\w-]+\.(?:antt|rt|edit|md|py|rs|sv|txt|json|svg|supp|t
 COMMAND = re.compile(r"(?<![\w/-])tools/([\w-]+)(?![\w-]|\.\w)")
 IN_A_CRATE = ("specs", "src", "proofs", "must-fail", "stdin", "stdout")
 MADE = "target"  # what is built is there only after a build
+OUT = "out"  # and so is what `rt` makes in a crate's folder, with copies of its files
 
 
 def blanked(found):
@@ -36,7 +37,7 @@ class Page:
         self.text = path.read_text(encoding="utf-8")
         self.unfenced = FENCE.sub(blanked, self.text)
         self.prose = CODE.sub(blanked, self.unfenced)
-        self.told = not self.name.startswith("docs/changes/")  # of how things are now
+        self.told = not self.name.startswith(("docs/changes/", "docs/PORT.md"))  # of how things are now
 
     def at(self, place):
         """A place in the text as whoever edits the page would find it."""
@@ -74,6 +75,14 @@ def pages_of(root):
     root = pathlib.Path(root).resolve()
     paths = [root / "README.md", *sorted((root / "docs").rglob("*.md")), *sorted((root / "examples").rglob("README*"))]
     return [Page(root, path) for path in paths if path.is_file()]
+
+
+def below(folder):
+    """The files and directories in a directory and in those in it, but for what `rt` makes."""
+    for at, folders, files in os.walk(str(folder)):
+        folders[:] = sorted(name for name in folders if name != OUT)
+        for name in (*folders, *sorted(files)):
+            yield pathlib.Path(at, name)
 
 
 # Links.
@@ -131,6 +140,7 @@ class Paths:
         self.root = root
         self.tops = {path.name for path in root.iterdir() if path.is_dir() and path.name not in (MADE, ".git")}
         self.crates = {path.name for path in (root / "crates").glob("*") if path.is_dir()}
+        self.below = {}  # of a directory, what is below it, and the paths from there
 
     def looks(self, word):
         """Whether a word is a path, and one that is to be there."""
@@ -149,8 +159,14 @@ class Paths:
                 return there
         section = set(re.findall(r"[\w-]+", page.section(place)))
         near = [self.root / "crates" / crate for crate in sorted(self.crates & section)]
-        there = [path for base in near for path in base.rglob(word)]
-        return there or [path for top in sorted(self.tops) for path in (self.root / top).rglob(word)]
+        there = [path for base in near for path in self.named(base, word)]
+        return there or [path for top in sorted(self.tops) for path in self.named(self.root / top, word)]
+
+    def named(self, base, word):
+        """What is below a directory and has a path that ends so."""
+        if base not in self.below:
+            self.below[base] = [(path, path.relative_to(base)) for path in below(base)]
+        return [path for path, inner in self.below[base] if inner.match(word)]
 
 
 def words_of(page):
@@ -186,7 +202,7 @@ def listed_crates(root):
     """The crates of crates.txt."""
     text = (root / "crates.txt").read_text(encoding="utf-8")
     lines = (line.partition("#")[0].partition(":") for line in text.splitlines())
-    return [name.strip() for name, colon, _ in lines if colon]
+    return [head.strip().partition(" ")[0] for head, colon, _ in lines if colon]  # `staticlib` may stand behind a name
 
 
 def crates(pages):

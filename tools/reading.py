@@ -1,20 +1,20 @@
 """Reads the definitions of an .antt file for tools/mutate: where each clause's body stands, and what it is made of.
 
 Only as much of the language is read as specs/ uses: names, numbers, calls, fields, operators, `λ`, `let`, records and
-lists. A body that is not of these is passed over whole.
+lists. A field stands right behind what it is of, as in `x.hit`; `Tree.victim` is a name of the module `Tree`. A body that is not of these is passed over whole.
 """
 
 import dataclasses
 import re
 
 TOKEN = re.compile(
-    r"(?P<skip>\s+|--[^\n]*)|(?P<field>(?<=\s)\.[\w-]+)|(?P<number>0x[0-9a-f]+|\d+)"
-    r"|(?P<name>[^\W\d][\w·-]*(?:\.[^\W\d][\w·-]*)*)|(?P<mark>&&|\|\||\+\+|\[\]|[-+*/%^∷≡×→=:;,(){}._])"
+    r"(?P<skip>\s+|--[^\n]*)|(?P<field>(?<=[\w')])\.[\w'-]+)|(?P<number>0x[0-9a-f]+|\d+)"
+    r"|(?P<name>(?:[A-Z]\w+\.)?[^\W\d][\w'-]*)|(?P<mark>&&|\|\||\+\+|==|\[\]|[-+*/%^∷≡×→=:;,(){}._])"
 )
-POWER = {"×": 1, "||": 2, "&&": 3, "≡": 4, "∷": 5, "++": 5, "+": 6, "-": 6, "*": 7, "/": 7, "%": 7, "^": 8}
-RIGHT = {"×", "||", "&&", "∷", "++", "^"}
-SIGNATURE = re.compile(r"\s*(?:(?:abbrev|unfoldable)\s+)?(?:pub\s+)?([^\W\d][\w·-]*)\s*:\s(.*)", re.S)
-CLAUSE = re.compile(r"\s*([^\W\d][\w·-]*)\s")
+POWER = {"×": 1, "≡": 2, "||": 3, "&&": 4, "==": 5, "++": 6, "+": 6, "-": 6, "∷": 7, "*": 8, "/": 8, "%": 8, "^": 9}
+RIGHT = {"×", "∷", "^"}
+SIGNATURE = re.compile(r"\s*(?:(?:abbrev|unfoldable)\s+)?(?:pub\s+)?([^\W\d][\w'-]*)\s*:\s(.*)", re.S)
+CLAUSE = re.compile(r"\s*([^\W\d][\w'-]*)\s")
 
 
 class Unread(Exception):
@@ -33,7 +33,7 @@ class Token:
 class Node:
     """A part of a body: its kind, its place in the file's text, its own token if it has one, and its parts."""
 
-    kind: str  # name number empty field paren record call binary lambda let
+    kind: str  # name number empty field projection paren record call binary lambda let
     start: int
     end: int
     token: Token | None = None
@@ -128,9 +128,17 @@ class Parser:
     def _begins(token: Token) -> bool:
         if token.kind == "name":
             return token.text not in ("in", "λ")
-        return token.kind in ("number", "field") or token.text in ("(", "[]", "_")
+        return token.kind == "number" or token.text in ("(", "[]", "_")
 
     def atom(self) -> Node:
+        node = self.bare()
+        while self.at < len(self.found) and self.found[self.at].kind == "field":
+            token = self.take()
+            field = Node("field", token.start, token.end, token)
+            node = Node("projection", node.start, token.end, None, [node, field])
+        return node
+
+    def bare(self) -> Node:
         token = self.take()
         if token.text == "(":
             parts = [self.expression()]
@@ -185,7 +193,7 @@ def clauses(text: str) -> list[Clause]:
     for start, end in _items(text):
         item = text[start:end]
         signature = SIGNATURE.match(item)
-        if signature and not re.match(r"\s*[\w·-]+ [^:=]*=", item):
+        if signature and not re.match(r"\s*[\w'-]+ [^:=]*=", item):
             types[signature[1]] = signature[2].strip()
             continue
         name = CLAUSE.match(item)

@@ -17,7 +17,7 @@ from changing import Change
 
 SECONDS = 60
 KIBIBYTES = 6 * 1024 * 1024
-ERROR = re.compile(r"^\S*/(specs|proofs)/([\w·-]+)\.antt:\d+:\d+: error", re.M)
+ERROR = re.compile(r"^\S*/(specs|proofs)/([\w-]+)\.antt:\d+:\d+: error", re.M)
 FIRST = 2  # so many that refused others make the first batch: each refusal takes a while to be told
 OPENING = "Computing"  # modules that only open definitions for others
 
@@ -35,17 +35,15 @@ class Tried:
     seconds: float
 
 
-def toolchain() -> tuple[pathlib.Path, pathlib.Path]:
-    """The kit's folder and its part for this machine, found as `rt` finds them."""
-    found = os.environ.get("RATTLE_HOME") or shutil.which("rt")
+def toolchain() -> pathlib.Path:
+    """The kit's folder, found by where `rt` is."""
+    found = shutil.which("rt")
     if not found:
-        raise Problem("rt is not in the path, and RATTLE_HOME is not set")
-    home = pathlib.Path(found).resolve()
-    home = home if home.is_dir() else home.parent.parent
-    own = home / "on" / os.uname().machine
-    if not (own / "bin" / "rattle").is_file():
-        raise Problem(f"no toolchain for this machine at {home}")
-    return home, own
+        raise Problem("rt is not in the path")
+    home = pathlib.Path(found).resolve().parent.parent
+    if not (home / "bin" / "rattle").is_file():
+        raise Problem(f"no toolchain at {home}")
+    return home
 
 
 class Copy:
@@ -53,7 +51,7 @@ class Copy:
 
     def __init__(self, root: pathlib.Path, place: pathlib.Path):
         self.root, self.place = root, place
-        self.home, self.own = toolchain()
+        self.home = toolchain()
         self.work, self.kept = place / "copy", place / "kept"
         self.made = copying.make(root)
         self.reach = {name: set(self.made.near([name], [])[0]) for name in self.made.proofs}
@@ -76,7 +74,7 @@ class Copy:
         files = {f: f.stat().st_mtime for f in self.kept.glob("*/*.oantt")}
         found, last = {}, 0.0
         for file, moment in sorted(files.items(), key=lambda item: item[1]):
-            if "·proofs.proofs." in file.name:
+            if "-proofs." in file.name:
                 found[file.stem.rpartition(".")[2]] = min(moment - last, 5.0)
             last = moment
         return {name: found.get(name, 1.0) for name in self.made.proofs}
@@ -149,11 +147,11 @@ class Copy:
     def _check(self, kept: pathlib.Path, seconds: float) -> tuple[int, str, float]:
         """Checks the copy over what is kept of earlier checks: the status, what was said, and the time. A check that
         passed the limits has status -1."""
-        own, home = self.own, self.home
-        words = [own / "bin/rattle", "check", "--crate-name", copying.CRATE, self.work / "src/lib.rt"]
-        words += ["--extern", f"std={own}/rlib/std.rlib", "-L", f"dependency={own}/rlib"]
-        words += ["--antt-project", home / "logic/antt-project.json", "--logic-built", own / "logic-built"]
-        words += ["--incremental", kept]
+        home = self.home
+        words = [home / "bin/rattle", "check", "--crate-name", copying.CRATE, self.work / "src/lib.rt"]
+        words += ["--extern", f"std={home}/rlibs/std.rlib", "-L", f"dependency={home}/rlibs"]
+        words += ["--antt-project", home / "rattle/logic/antt-project.json", "--logic-built", home / "logic_built"]
+        words += ["--incremental", kept, "--jobs", "1"]
         began = time.monotonic()
         with tempfile.TemporaryFile(dir=self.place) as out:
             with subprocess.Popen(words, stdout=out, stderr=subprocess.STDOUT, start_new_session=True) as run:

@@ -13,6 +13,7 @@ from collections.abc import Callable
 from unittest import mock
 
 from frontend import cli, listing, programs, run, stepper, tracefile
+from frontend.build import by_hand
 from frontend.errors import MachineFailure
 from frontend.listing import Counts
 from frontend.stepper import Row
@@ -36,7 +37,7 @@ def knows_cores() -> bool:
 needs_programs = unittest.skipIf(
     any(programs.amiss(name) for name in programs.NAMES) or not knows_cores(),
     "the programs are not in target/bin, not up to date, or of a time before the cores;"
-    f" 'rt check {' '.join(programs.NAMES)}' builds them",
+    f" '{by_hand(*programs.NAMES)}' builds them",
 )
 needs_no_rights = unittest.skipIf(hasattr(os, "geteuid") and os.geteuid() == 0, "root may read and write every file")
 needs_full = unittest.skipUnless(os.path.exists("/dev/full"), "there is no /dev/full")

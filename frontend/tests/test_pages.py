@@ -35,33 +35,34 @@ See [claims](docs/CLAIMS.md#the-step), [layers](docs/ARCHITECTURE.md), [changes]
 
 ## The `step`
 
-`step`, `row-law` in `crates/row/specs/Row.antt` and `touch_nothing` in `crates/row/must-fail`.
+`step`, `row_law` in `crates/row/specs/Row.antt` and `touch_nothing` in `crates/row/must-fail`.
 
 | said | definition | file under `crates/` |
 |---|---|---|
 | a | `step`; `count` | `row/specs/Row.antt`; `map/src/lib.rt` |
-| b | `row-law` | `row/specs/Row.antt` |
+| b | `row_law` | `row/specs/Row.antt` |
 | c | `Row` | the same |
 """,
     "docs/changes/01.md": "# Then\n\nThere was `crates/gone/specs/Gone.antt`.\n",
-    "crates.txt": "# crates\nmap:\nrow: map\n",
+    "crates.txt": "# crates\nmap:\nrow staticlib: map\n",
     "crates/map/src/lib.rt": """\
-ghost use lib.{
+ghost use Rattle.other.specs.Other.{
   other,
 };
 pub fn count(x: u16) -> u8
-    ensures { λ r. ⌜ r ≡ bits x ⌝ }
+    ensures { result ≡ bits x }
 """,
     "crates/row/specs/Row.antt": """\
 -- told : here
-use lib.{used}
+use Rattle.std.specs.Prelude.{used}
 abbrev pub step : ℕ → ℕ
 step x = x
 
 pub record Row : Type 0 where
-  pub row-law : (x : ℕ) → step x ≡ x
+  pub row_law : (x : ℕ) → step x ≡ x
 """,
     "crates/row/must-fail/touch_nothing.edit": "file: specs/Row.antt\n",
+    "crates/row/out/rlib/Kept.antt": "kept : ℕ\n",
     "tools/run": "#!/bin/sh\n",
 }
 
@@ -127,15 +128,16 @@ class Made(unittest.TestCase):
 
     def test_paths(self):
         self.replace("README.md", "    tools/run docs/CLAIMS.md", "    tools/run docs/GONE.md target/made")
-        self.replace("docs/ARCHITECTURE.md", "`row` is", "`crates/row/specs/Gone.antt`, `specs/Row.antt`; `row` is")
+        self.replace("docs/ARCHITECTURE.md", "`row` is", "`crates/row/specs/Gone.antt`, `specs/Row.antt`, `Kept.antt`; `row` is")
         said = ["README.md:5: `docs/GONE.md`, and there is no such file",
-                "docs/ARCHITECTURE.md:6: `crates/row/specs/Gone.antt`, and there is no such file"]
+                "docs/ARCHITECTURE.md:6: `crates/row/specs/Gone.antt`, and there is no such file",
+                "docs/ARCHITECTURE.md:6: `Kept.antt`, and there is no such file"]
         self.assertEqual(self.faults(), {"paths": said})
 
     def test_crates(self):
         self.replace("crates.txt", "map:\n", "map:\nnew: map\n")
         self.assertEqual(len(self.faults()["crates"]), 2)
-        self.replace("crates.txt", "new: map\nrow: map\n", "")
+        self.replace("crates.txt", "new: map\nrow staticlib: map\n", "")
         said = "docs/ARCHITECTURE.md:1: row is in the drawing, and crates.txt has no such crate"
         self.assertEqual(self.faults()["crates"], [said])
 
@@ -145,8 +147,8 @@ class Made(unittest.TestCase):
         self.assertEqual(self.faults(), {"commands": ["tools/more:1: no page names this command"]})
 
     def test_names(self):
-        self.replace("docs/CLAIMS.md", "## The", "`told`, `used`, `other`, `ensures`.\n\n## The")
-        self.assertEqual([fault.split("`")[1] for fault in self.faults()["names"]], ["told", "used", "other"])
+        self.replace("docs/CLAIMS.md", "## The", "`told`, `used`, `other`, `kept`, `ensures`.\n\n## The")
+        self.assertEqual([fault.split("`")[1] for fault in self.faults()["names"]], ["told", "used", "other", "kept"])
 
     def test_calls(self):
         self.replace("docs/ARCHITECTURE.md", "map::count", "map::counts")
@@ -154,7 +156,7 @@ class Made(unittest.TestCase):
         self.assertEqual(self.faults(), {"calls": [said]})
 
     def test_a_name_beside_another_file(self):
-        self.replace("docs/CLAIMS.md", "`step`, `row-law` in", "`step`, `count` in")
+        self.replace("docs/CLAIMS.md", "`step`, `row_law` in", "`step`, `count` in")
         said = "docs/CLAIMS.md:5: `count` in `crates/row/specs/Row.antt`, and it is not defined there"
         self.assertEqual(self.faults(), {"beside": [said]})
 

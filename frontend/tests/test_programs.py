@@ -4,6 +4,7 @@ from __future__ import annotations
 import contextlib
 import io
 import os
+import subprocess
 import sys
 import tempfile
 import time
@@ -35,6 +36,8 @@ class StandIns(unittest.TestCase):
         self.path = self.root / "path"
         self.bin.mkdir(parents=True)
         self.path.mkdir()
+        for name in programs.NAMES:
+            (self.root / "crates" / name).mkdir(parents=True)
         for patch in (
             mock.patch.multiple(programs, ROOT=self.root, BIN=self.bin),
             mock.patch.dict(os.environ, {"PATH": str(self.path)}),
@@ -130,26 +133,37 @@ class Building(StandIns):
     """Programs that are missing."""
 
     MAKE = (
-        "for name in sys.argv[2:]:\n"
-        "    open(f'target/bin/{name}', 'w').write('#!/bin/sh\\necho 7\\n')\n"
-        "    os.chmod(f'target/bin/{name}', 0o755)"
+        "name = os.path.basename(os.getcwd())\n"
+        "os.makedirs('out', exist_ok=True)\n"
+        "open(f'out/{name}', 'w').write('#!/bin/sh\\necho 7\\n')\n"
+        "os.chmod(f'out/{name}', 0o755)\n"
     )
 
-    def rt(self, *due: str) -> None:
-        """Put an `rt` on the PATH that makes programs, and wants to be told just some."""
-        self.script(self.path, "rt", f"assert sys.argv[1:] == ['check', *{due!r}], sys.argv\n{self.MAKE}")
+    def rt(self, *due: str, status: int = 0) -> None:
+        """Put an `rt` on the PATH that makes a program and runs it, and wants to be asked for just some."""
+        asked = f"assert sys.argv[1:] == ['run'] and os.path.basename(os.getcwd()) in {due!r}, (sys.argv, os.getcwd())\n"
+        self.script(self.path, "rt", f"{asked}assert sys.stdin.read() == ''\n{self.MAKE}sys.exit({status})")
 
     def test_no_rt(self):
         missing = "dipperlock: target/bin/lister is missing, and there is no 'rt' on the PATH to build with; add its directory"
         told = self.attempt(io.StringIO(), "lister")
         self.assertTrue(told.startswith(missing), told)
-        self.assertIn("or run 'rt check lister && touch target/bin/lister' where it is", told)
+        commands = "(cd crates/$name && rt run < /dev/null); cp crates/$name/out/$name target/bin"
+        self.assertIn(f"or run 'mkdir -p target/bin; for name in lister; do {commands}; done' where it is", told)
+
+    def test_by_hand(self):
+        self.rt("lister", "purger")
+        self.bin.rmdir()
+        path = {**os.environ, "PATH": f"{self.path}:/usr/bin:/bin"}
+        subprocess.run(("/bin/sh", "-c", build.by_hand("lister", "purger")), cwd=self.root, env=path, check=True)
+        self.assertEqual(sorted(os.listdir(self.bin)), ["lister", "purger"])
+        self.assertEqual(programs.lister(b""), b"7\n")
 
     def test_only_what_is_needed_is_built(self):
         self.rt("lister")
         err = io.StringIO()
         self.assertEqual(self.attempt(err, "lister"), b"7\n")
-        notice = "dipperlock: target/bin/lister is missing; building with 'rt check lister', which takes some minutes"
+        notice = "dipperlock: target/bin/lister is missing; building with 'rt run' in crates/lister, which takes some minutes"
         self.assertTrue(err.getvalue().startswith(notice), err.getvalue())
         self.assertEqual(err.getvalue().count("\n"), 1)
         self.assertEqual(os.listdir(self.bin), ["lister"])
@@ -163,16 +177,24 @@ class Building(StandIns):
 
     def test_what_each_command_needs(self):
         case = str(Path(__file__).resolve().parents[2] / "examples" / "case-a.txt")
-        self.script(self.path, "rt", "sys.exit(' '.join(sys.argv[1:]))")
+        stop = "if not os.path.exists('go on'): sys.exit(' '.join([*sys.argv[1:], os.path.basename(os.getcwd())]))\n"
+        self.script(self.path, "rt", stop + self.MAKE)
         for arguments, needed in (
             (("list", case), "lister"),
             (("explain", case), "lister stepper"),
             (("isolate", case, "0"), "lister purger stepper parts"),
         ):
+            *before, failed = needed.split()
+            for name in before:
+                (self.root / "crates" / name / "go on").touch()
             err = io.StringIO()
             with contextlib.redirect_stderr(err):
                 self.assertEqual(cli.main(list(arguments)), 3)
-            self.assertIn(f"\ncheck {needed}\ndipperlock: 'rt check {needed}' failed with status 1", err.getvalue())
+            folders = ", ".join(f"crates/{name}" for name in needed.split())
+            self.assertIn(f"; building with 'rt run' in {folders}, which takes some minutes", err.getvalue())
+            self.assertIn(f"\nrun {failed}\ndipperlock: 'rt run' in crates/{failed} failed with status 1", err.getvalue())
+            for name in before:
+                (self.bin / name).unlink()
 
     def test_bad_input_is_told_before_anything_is_built(self):
         self.script(self.path, "rt", "sys.exit('not asked for')")
@@ -188,18 +210,30 @@ class Building(StandIns):
         self.script(self.path, "rt", "print('to out', flush=True); sys.exit('to err')")
         err = io.StringIO()
         told = self.attempt(err, "lister")
-        self.assertIn("'rt check lister' failed with status 1; what it said stands above", told)
+        self.assertIn("'rt run' in crates/lister failed with status 1; what it said stands above", told)
         self.assertTrue(err.getvalue().endswith("\nto out\nto err\n"), err.getvalue())
+
+    def test_what_counts_is_the_program_and_not_how_it_ended_on_no_input(self):
+        self.rt("lister", status=3)
+        self.assertEqual(self.attempt(io.StringIO(), "lister"), b"7\n")
+
+    def test_an_older_program_in_the_crate_does_not_count(self):
+        self.rt("lister")
+        self.attempt(io.StringIO(), "lister")
+        (self.bin / "lister").unlink()
+        self.assertTrue((self.root / "crates/lister/out/lister").is_file())
+        self.script(self.path, "rt", "sys.exit('not proved')")
+        self.assertIn("'rt run' in crates/lister failed with status 1", self.attempt(io.StringIO(), "lister"))
 
     def test_an_rt_that_cannot_run(self):
         (self.path / "rt").write_text("#!/no/such/interpreter\n")
         (self.path / "rt").chmod(0o755)
-        self.assertIn("dipperlock: cannot run 'rt check lister': No such file", self.attempt(io.StringIO(), "lister"))
+        self.assertIn("dipperlock: cannot run 'rt run' in crates/lister: No such file", self.attempt(io.StringIO(), "lister"))
 
     def test_nothing_built(self):
         self.script(self.path, "rt", "")
         told = self.attempt(io.StringIO(), "lister")
-        self.assertIn("'rt check lister' succeeded, but there is still no target/bin/lister", told)
+        self.assertIn("'rt run' in crates/lister succeeded, but there is still no crates/lister/out/lister", told)
 
     def test_seconds_on_a_terminal(self):
         self.script(self.path, "rt", "time.sleep(1.2)")
@@ -219,7 +253,8 @@ class Building(StandIns):
 class UpToDate(StandIns):
     """Programs that are older than a source."""
 
-    LIST = "# Crates\nlow:\nmiddle: low io\nother: low\nlister: middle io\n"
+    LIST = "# Crates\nlow:\nmiddle: low io\nother: low\nlister: middle io\nshared staticlib: middle\n"
+    MAKE = "os.makedirs('out', exist_ok=True); import shutil; shutil.copy('../../target/bin/lister', 'out/lister')\n"
 
     def setUp(self) -> None:
         super().setUp()
@@ -241,6 +276,7 @@ class UpToDate(StandIns):
     def test_newest_source(self):
         self.assertEqual(crates.newest_source(self.root, "lister")[1], Path("crates/lister/src/lib.rt"))
         self.assertEqual(crates.newest_source(self.root, "middle")[1], Path("crates/middle/src/lib.rt"))
+        self.assertEqual(crates.newest_source(self.root, "shared")[1], Path("crates/middle/src/lib.rt"))
         self.assertIsNone(crates.newest_source(self.root, "nothing"))
 
     def test_current(self):
@@ -266,10 +302,10 @@ class UpToDate(StandIns):
 
     def test_an_older_program_is_built(self):
         self.write("low/src/lib.rt", 3000)
-        self.script(self.path, "rt", "open('target/bin/lister', 'a').write('print(2)\\n')")
+        self.script(self.path, "rt", self.MAKE + "open('out/lister', 'a').write('print(2)\\n')")
         err = io.StringIO()
         self.assertEqual(self.attempt(err, "lister"), b"1\n2\n")
-        self.assertIn("target/bin/lister is older than crates/low/src/lib.rt; building with 'rt check lister'", err.getvalue())
+        self.assertIn("target/bin/lister is older than crates/low/src/lib.rt; building with 'rt run' in crates/lister", err.getvalue())
 
     def test_an_older_program_is_not_run_where_it_cannot_be_built(self):
         self.write("low/src/lib.rt", 3000)
@@ -277,7 +313,7 @@ class UpToDate(StandIns):
         self.assertIn("target/bin/lister is older than crates/low/src/lib.rt, and there is no 'rt' on the PATH", told)
 
     def test_rt_is_asked_once_where_nothing_changed(self):
-        self.script(self.path, "rt", "open('asked', 'a').write('x')")
+        self.script(self.path, "rt", f"{self.MAKE}open('../../asked', 'a').write('x')")
         for seconds in (3000, time.time() + 10_000):  # a clock may be wrong
             self.write("low/src/lib.rt", int(seconds))
             self.attempt(io.StringIO(), "lister")
@@ -288,7 +324,7 @@ class UpToDate(StandIns):
 
     def test_a_source_that_is_written_during_a_build_is_newer(self):
         self.write("low/src/lib.rt", 3000)
-        self.script(self.path, "rt", "time.sleep(0.05); open('crates/low/src/lib.rt', 'w')")
+        self.script(self.path, "rt", f"{self.MAKE}time.sleep(0.05); open('../low/src/lib.rt', 'w')")
         self.attempt(io.StringIO(), "lister")
         self.assertEqual(programs.amiss("lister"), "is older than crates/low/src/lib.rt")
 
@@ -297,7 +333,7 @@ class UpToDate(StandIns):
         for name in programs.NAMES:
             self.assertIsNotNone(crates.newest_source(root, name))
         needed = crates._needed(crates._listed(root), "lister")
-        self.assertTrue({"lister", "trace", "cache", "tree", "nru", "lru", "waymap"} <= set(needed), needed)
+        self.assertTrue({"lister", "trace", "cache", "tree", "nru", "lru_rule", "waymap"} <= set(needed), needed)
         self.assertFalse({"purger", "stepper", "cases", "isolation"} & set(needed))
 
 

@@ -2,6 +2,7 @@
 
 import pathlib
 import sys
+import tempfile
 import unittest
 
 sys.dont_write_bytecode = True
@@ -12,9 +13,7 @@ import copying
 import reading
 
 FILE = """-- A file.
-use mathlib.Core.Bool.{Bool, cond, _&&_}
-use Prim.Native.Nat.{ℕ, _+_}
-use lib.Dec.{eqb, ltb}
+use Rattle.std.specs.Prelude.{Bool, cond, ◌&&◌, ℕ, zero, suc, ◌+◌, eqb, ltb}
 
 -- A type, a statement and a type-valued definition are left alone.
 abbrev pub Bits : Type 0
@@ -54,15 +53,23 @@ class Reading(unittest.TestCase):
                 self.assertEqual(text[clause.start : clause.end].strip(), text[clause.start : clause.end], path)
 
     def test_fields_belong_to_what_stands_before(self):
-        text = "unfoldable f : A → ℕ\nf a = g (a .hit) x .fill b\n"
+        text = "unfoldable f : A → ℕ\nf a = g a.hit (x y).1.0 Tree.fill b\n"
         (clause,) = reading.clauses(text)
-        self.assertEqual([p.kind for p in clause.body.parts], ["name", "paren", "name", "field", "name"])
+        self.assertEqual([p.kind for p in clause.body.parts], ["name", "projection", "projection", "name", "name"])
+        inner, field = clause.body.parts[2].parts
+        self.assertEqual((inner.kind, field.token.text), ("projection", ".0"))
+        self.assertEqual(clause.body.parts[3].token.text, "Tree.fill")
 
     def test_operators_bind(self):
-        text = "unfoldable f : ℕ → ℕ\nf a = 1 + a * 2 ∷ [] ++ b\n"
+        text = "unfoldable f : ℕ → ℕ\nf a = (1 + a * 2) ∷ [] ++ b\n"
         (clause,) = reading.clauses(text)
-        self.assertEqual(clause.body.token.text, "∷")
-        self.assertEqual(clause.body.parts[1].token.text, "++")
+        self.assertEqual(clause.body.token.text, "++")
+        self.assertEqual(clause.body.parts[0].token.text, "∷")
+        text = "unfoldable f : ℕ → Bool\nf a = g a == 1 && h a || b\n"
+        (clause,) = reading.clauses(text)
+        self.assertEqual(clause.body.token.text, "||")
+        self.assertEqual(clause.body.parts[0].token.text, "&&")
+        self.assertEqual(clause.body.parts[0].parts[0].token.text, "==")
 
 
 class Changing(unittest.TestCase):
@@ -94,27 +101,52 @@ class Changing(unittest.TestCase):
 
     def test_names_are_brought_in(self):
         (change,) = [c for c in changing.changes(FILE) if c.new == "not (eqb b 4)"]
-        self.assertIn("use mathlib.Core.Bool.{not}\n", change.applied(FILE))
+        self.assertIn("use Rattle.std.specs.Prelude.{not}\n", change.applied(FILE))
+        (change,) = [c for c in changing.changes(FILE) if c.new == "||"]
+        self.assertIn("use Rattle.std.specs.Prelude.{◌||◌}\n", change.applied(FILE))
+
+    def test_equality_by_its_sign(self):
+        text = "unfoldable f : ℕ → Bool\nf a = g a == 4\n"
+        found = made(text)
+        for new in ("not (g a == 4)", "leb (g a) 4", "leb 4 (g a)"):
+            self.assertIn(("g a == 4", new), found)
 
     def test_records_and_lists(self):
-        text = "unfoldable f : ℕ → R\nf a = record { hit = a .hit; fill = 1 ∷ b ∷ [] }\n"
+        text = "unfoldable f : ℕ → R\nf a = record { hit = a.hit; fill = 1 ∷ b ∷ [] }\n"
         found = made(text)
         self.assertIn((".hit", ".fill"), found)
-        self.assertIn(("a .hit", "1 ∷ b ∷ []"), found)
+        self.assertIn(("a.hit", "1 ∷ b ∷ []"), found)
         self.assertIn(("1 ∷ b ∷ []", "b ∷ []"), found)
 
 
 class Copying(unittest.TestCase):
     def test_modules_are_renamed(self):
-        line = "use Rattle·tree·specs.specs.declared.nodes.Nodes.{Nodes}"
-        self.assertEqual(copying.turned(line), "use Rattle·model·specs.specs.declared.tree_nodes.Nodes.{Nodes}")
-        line = "use Rattle·steps.proofs.Computing.{computing}"
-        self.assertEqual(copying.turned(line), "use Rattle·model·proofs.proofs.StepsComputing.{computing}")
+        line = "use Rattle.tree.specs.declared.nodes.Nodes.{Nodes}"
+        self.assertEqual(copying.turned(line), "use Rattle.model.specs.declared.tree_nodes.Nodes.{Nodes}")
+        line = "use Rattle.command.specs.declared.Answer.TheVariants.{Hit}"
+        self.assertEqual(copying.turned(line), "use Rattle.model.specs.declared.command.Answer.TheVariants.{Hit}")
+        line = "use Rattle.steps.proofs.Computing.{computing}"
+        self.assertEqual(copying.turned(line), "use Rattle.model.proofs.StepsComputing.{computing}")
+        line = "use Rattle.lru_rule.specs.Lru as Lru"
+        self.assertEqual(copying.turned(line), "use Rattle.model.specs.LruRuleLru as Lru")
+        line = "use Rattle.std.specs.Prelude.{ℕ}"
+        self.assertEqual(copying.turned(line), line)
+
+    def test_types_of_a_source_are_taken(self):
+        text = "use command::{Answer, Asked};\nuse crate::path;\n\n#[derive(Clone, Copy)]\npub struct Stepped {\n    pub answer: Answer,\n}\n\nfn step() {}\n"
+        with tempfile.TemporaryDirectory() as name:
+            folder = pathlib.Path(name)
+            (folder / "lib.rt").write_text(text)
+            made = copying.declared("cache", folder)
+        self.assertEqual(made, {"cache": "use crate::command::Answer;\n\npub struct Stepped {\n    pub answer: Answer,\n}\n"})
 
     def test_closed_equations_are_taken(self):
-        text = "use lib.Dec.{eqb}\n\n-- a case\nkept : f 1 ≡ 2\nunfolding f\nkept = refl\n\nlaw : (n : ℕ) → f n ≡ n\nlaw n = refl\n"
+        uses = "use Rattle.std.proofs.Common.{refl}\nuse Rattle.tree.proofs.TreeLaws.{f_known}\n"
+        text = f"{uses}\n-- a case\nkept : f 1 ≡ 2\nunfolding f\nkept = refl\n\nlaw : (n : ℕ) → f n ≡ n\nlaw n = refl\n"
         taken = copying.computed_in(text)
         self.assertIn("kept = refl", taken)
+        self.assertIn("Common", taken)
+        self.assertNotIn("TreeLaws", taken)
         self.assertNotIn("law", taken)
 
 
