@@ -1,7 +1,7 @@
 """The names that pages cite, for tools/verify: that they are defined, and in the file named beside them.
 
 In docs/CLAIMS.md every name in a code span is to be defined somewhere under crates/, in a specification, a proof or a
-source, or to be a must-fail edit, a crate, or a word of WORDS. On every page but the notes in docs/changes and docs/PORT.md:
+source, or to be a must-fail edit, a crate, or a word of WORDS. On every page but the notes in docs/changes, docs/PORT.md and docs/DESIGN-PASS.md:
 
   `a`, `b` in `file`        both are defined in that file; so too with a comma or a bracket before the file, and with
                             more files behind it, `a` in `file` and in `other`
@@ -27,7 +27,7 @@ ELSE = re.compile(r"(?:\]\([^)]*\))?(?:,|\s+and|\s+or)\s+\[?")  # between two fi
 DECLARED = re.compile(r"\s*(?:(?:abbrev|unfoldable|opaque|pub|record|data)\s+)*([^\s(){}:;,=]+)"
                       r"(?:\s+[^:=]*|\s*[({].*)?:(?:\s|$)")
 IMPORT = re.compile(r"^\s*(?:pub\s+)?(?:ghost\s+)?use\s[^;]*;", re.MULTILINE)
-FUNCTION = re.compile(r"\b(?:fn|struct|enum|const|static)\s+([A-Za-z_]\w*)")
+FUNCTION = re.compile(r"\b(?:fn|struct|enum|trait|const|static)\s+([A-Za-z_]\w*)")
 FIELD = re.compile(r"\s+(?:pub\s+)?([A-Za-z_]\w*)(?:\(.*\)|\s*:.*)?,\s*(?://.*)?$")
 RESTS = re.compile(r"\bgo(?:es)? by\b")  # a cell that says what definitions rest on, and not where each stands
 OVER = re.compile(r"\bover\s+(?=`)")  # a name behind it is what the one before stands on

@@ -1,7 +1,7 @@
 """The pages' links, paths and lists, for tools/verify: that what they lead to and name is there.
 
 A page is README.md, a Markdown file under docs/, or a README.md under examples/. Each check is given the pages, and
-gives how many things it looked at and a line for each fault. Notes in docs/changes, and docs/PORT.md, tell of a time,
+gives how many things it looked at and a line for each fault. Notes in docs/changes, docs/PORT.md and docs/DESIGN-PASS.md tell of a time,
 and may name what is gone: of them the links are checked, and nothing else.
 """
 
@@ -37,7 +37,7 @@ class Page:
         self.text = path.read_text(encoding="utf-8")
         self.unfenced = FENCE.sub(blanked, self.text)
         self.prose = CODE.sub(blanked, self.unfenced)
-        self.told = not self.name.startswith(("docs/changes/", "docs/PORT.md"))  # of how things are now
+        self.told = not self.name.startswith(("docs/changes/", "docs/PORT.md", "docs/DESIGN-PASS.md"))  # of how things are now
 
     def at(self, place):
         """A place in the text as whoever edits the page would find it."""

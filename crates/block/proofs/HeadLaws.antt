@@ -1,5 +1,8 @@
 -- Numbers 12 and 1, and what they let pass.
 use Rattle.std.proofs.Common.{◌≡◌, ℕ, true, eqb, ltb, List, length, ap, ◌∙◌, suc-ne-zero, eq-eqb, ne_eqb, eqb-true}
+use Rattle.std.proofs.Common.{Result, Ok, Err}
+use Rattle.std.specs.Result.{IsErrAnd}
+use Rattle.command.specs.declared.Refusal.{Refusal}
 use borrow.Author.Tests.{eqb-false}
 use Rattle.waymap.proofs.Booleans.{cases}
 use Rattle.geometry.specs.Geometry.{within}
@@ -9,6 +12,11 @@ use Rattle.geometry.proofs.GeometryLaws.{limited}
 use Rattle.block.specs.Layout.{block_bytes, zeros_in}
 use Rattle.block.specs.Block.{answer_bytes, length_refusal, block_refusal}
 use Rattle.block.specs.Inside.{Blocked}
+
+-- What is passed on by a `?` is the refusal itself.
+pub passed_on : {A : Type 0} (r : Result A Refusal) (e : Refusal) → IsErrAnd r (λ y. y ≡ e) → r ≡ Err e
+passed_on (Ok x) e h = absurd h
+passed_on (Err y) e h = ap Err h
 
 -- ---- of a block and a geometry
 

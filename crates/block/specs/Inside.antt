@@ -1,14 +1,19 @@
 -- What the crate's inner functions go by.
-use Rattle.std.specs.Prelude.{◌≡◌, ℕ, ◌+◌, ◌*◌, ◌^◌, ◌<◌, List, [], ◌++◌, length, take, drop, slice_index, slice_index_or}
+use Rattle.std.specs.Prelude.{◌≡◌, Result, Ok, Err, ℕ, ◌+◌, ◌*◌, ◌^◌, ◌<◌, List, [], ◌++◌, length, take, drop, slice_index, slice_index_or}
+use Rattle.std.specs.Borrow.{MutBor}
 use Rattle.std.proofs.lemmas.List.Edits.{sets}
 use Rattle.endian.specs.Bytes.{digits, field, cut, sum, put_field}
 use Rattle.runs.specs.Runs.{numbers, bytes_of}
 use Rattle.geometry.specs.Inside.{Limited}
 use Rattle.geometry.specs.declared.Geometry.{Geometry}
 use Rattle.row.specs.Row.{Row, Effect}
-use Rattle.row.specs.Calls.{row_of}
+use Rattle.row.specs.Calls.{row_of, effect_of, told}
+use Rattle.row.specs.declared.Done.{Done}
 use Rattle.row.specs.declared.Lines.{Lines}
+use Rattle.command.specs.Refusal.{number_of}
 use Rattle.command.specs.declared.Answer.{Answer}
+use Rattle.command.specs.declared.Answer.TheVariants.{Refused}
+use Rattle.command.specs.declared.Refusal.{Refusal}
 use Rattle.domains.specs.Domains.{put_domain}
 use Rattle.domains.specs.declared.Domain.{Domain}
 use Rattle.steps.specs.Tables.{Tables}
@@ -75,6 +80,16 @@ pub record RowWorked (p : Places) (f : Row → Effect) (W : ℕ) (before : List 
   pub answer_is : answer ≡ (f (row_in p W before)).answer
   pub block_is : after ≡ put_row_in p (f (row_in p W before)).row before
   pub fits : RowFits W (f (row_in p W before)).row
+
+-- What calls that are lent a row's tags and given the rest of it may answer and leave is what f does to the row.
+pub record DoesToRow (may : MutBor (List ℕ) → Lines → Done → MutBor (List ℕ) → Type 0) (f : Row → Effect) : Type 0 where
+  pub does : (tags left : MutBor (List ℕ)) (l : Lines) (d : Done) → may tags l d left
+      → told (effect_of d left.now) ≡ told (f (row_of tags.now l))
+
+-- What is told of a step that was done or turned down.
+abbrev pub told_of : Result Answer Refusal → Answer
+told_of (Ok a) = a
+told_of (Err r) = Refused (number_of r)
 
 -- What a function answers, and the contents that it leaves.
 pub record Did : Type 0 where

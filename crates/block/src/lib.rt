@@ -25,12 +25,13 @@ pub fn dipperlock_fresh(block: &mut [u8], sets: u64, ways: u64, rule: u64) -> u6
         ways: ways as usize,
         rule: rule as usize,
     };
-    let number = head::sized(g, block.len());
-    if number != 0 {
-        return number as u64;
+    match head::sized(g, block.len()) {
+        Ok(()) => {
+            make::fresh(block, g);
+            0
+        }
+        Err(refusal) => refusal.number() as u64,
     }
-    make::fresh(block, g);
-    0
 }
 
 // One step of kind and argument by a domain. The answer is 0, or the number of the refusal, and then the block is as it was. A lent answer of 32
@@ -46,6 +47,6 @@ pub fn dipperlock_step(
     ensures block_after { state_of (geometry_of block.new) block.new
         ≡ state_after block.old (length answer.old) domain kind argument }
 {
-    let told = work::step(block, answer.len(), domain as usize, kind, argument);
-    reply::put(answer, told)
+    let done = work::step(block, answer.len(), domain as usize, kind, argument);
+    reply::put(answer, reply::told(done))
 }

@@ -17,7 +17,7 @@ fn counts_at(block: &[u8], at: usize) -> Counts
     ensures { result ≡ counts_in (drop at block.now) }
 {
     let mut c = [0u32; 7];
-    runs::read_u32s(block, at, &mut c[0..7]);
+    runs::read(block, at, &mut c);
     Counts {
         hits: c[0],
         misses: c[1],
@@ -36,7 +36,7 @@ fn put_counts(block: &mut [u8], at: usize, c: Counts)
     let all = [
         c.hits, c.misses, c.evicted, c.written, c.flushed, c.fills, c.dropped,
     ];
-    runs::put_u32s(block, at, &all[0..7]);
+    runs::put(block, at, &all);
 }
 
 // The record of a domain.
@@ -46,8 +46,8 @@ pub fn own(block: &[u8], g: Geometry, d: usize) -> Domain
     ensures { result ≡ domain_of (contents g block.now).state.domains d }
 {
     Domain {
-        hit: endian::u16_at(block, layout::HIT_MAPS + 2 * d),
-        fill: endian::u16_at(block, layout::FILL_MAPS + 2 * d),
+        hit: endian::at(block, layout::HIT_MAPS + 2 * d),
+        fill: endian::at(block, layout::FILL_MAPS + 2 * d),
         counts: counts_at(block, layout::COUNTS + 28 * d),
     }
 }
@@ -57,8 +57,8 @@ pub fn put_own(block: &mut [u8], g: Geometry, d: usize, own: Domain)
     requires d_bound { d < 16 }
     ensures { contents g block.new ≡ with_domain d own (contents g block.old) }
 {
-    endian::put_u16(block, layout::HIT_MAPS + 2 * d, own.hit);
-    endian::put_u16(block, layout::FILL_MAPS + 2 * d, own.fill);
+    endian::put(block, layout::HIT_MAPS + 2 * d, own.hit);
+    endian::put(block, layout::FILL_MAPS + 2 * d, own.fill);
     put_counts(block, layout::COUNTS + 28 * d, own.counts);
 }
 
@@ -67,14 +67,12 @@ pub fn policies(block: &[u8], g: Geometry) -> Policies
     requires { Blocked g block.now }
     ensures { result ≡ policies_of (contents g block.now).state.domains }
 {
-    let mut maps = [Maps { hit: 0, fill: 0 }; 16];
-    let mut d = 0;
-    while d < 16 {
-        maps[d] = Maps {
-            hit: endian::u16_at(block, layout::HIT_MAPS + 2 * d),
-            fill: endian::u16_at(block, layout::FILL_MAPS + 2 * d),
+    let mut maps = [Maps::default(); 16];
+    for (d, own) in maps.iter_mut().enumerate() {
+        *own = Maps {
+            hit: endian::at(block, layout::HIT_MAPS + 2 * d),
+            fill: endian::at(block, layout::FILL_MAPS + 2 * d),
         };
-        d += 1;
     }
     Policies { maps }
 }

@@ -1,19 +1,19 @@
 // The answer as bytes.
-ghost use Rattle.std.specs.Prelude.{◌≡◌, if◌then◌else◌, nat_eq};
+ghost use Rattle.std.specs.Prelude.{◌≡◌};
 ghost use Rattle.command.specs.Answer.{answer_of};
-ghost use Rattle.block.specs.Block.{padded};
-ghost use Rattle.block.specs.Inside.{replied_of, replied};
+ghost use Rattle.block.specs.Block.{number_in, padded};
+ghost use Rattle.block.specs.Inside.{replied_of, replied, told_of};
 
-use command::Answer;
+use command::{Answer, Refusal};
 
-// 1 for true.
-fn digit(x: bool) -> u64
-    ensures { result ≡ (if x then 1 else 0) }
+// What a step answers, whether it was done or turned down.
+pub fn told(done: Result<Answer, Refusal>) -> Answer
+    ensures { result ≡ told_of done }
 {
-    if x {
-        return 1;
+    match done {
+        Ok(answer) => answer,
+        Err(refusal) => Answer::Refused(refusal.number()),
     }
-    0
 }
 
 // An answer's word and three fields.
@@ -23,9 +23,9 @@ fn fields_of(answer: Answer) -> [u64; 4]
     match answer {
         Answer::Hit(way) => [0, way as u64, 0, 0],
         Answer::Fill(way) => [1, way as u64, 0, 0],
-        Answer::Evict { way, tag, dirty } => [2, way as u64, tag, digit(dirty)],
+        Answer::Evict { way, tag, dirty } => [2, way as u64, tag, u64::from(dirty)],
         Answer::Pass => [3, 0, 0, 0],
-        Answer::Flush { way, dirty } => [4, way as u64, digit(dirty), 0],
+        Answer::Flush { way, dirty } => [4, way as u64, u64::from(dirty), 0],
         Answer::Absent => [5, 0, 0, 0],
         Answer::Policy { dropped, dirty } => [6, dropped as u64, dirty as u64, 0],
         Answer::Refused(number) => [7, number as u64, 0, 0],
@@ -33,24 +33,20 @@ fn fields_of(answer: Answer) -> [u64; 4]
 }
 
 // The number of a refusal, or 0.
-fn number(word: u64, first: u64) -> u64
-    ensures { result ≡ (if nat_eq word 7 then first else 0) }
+fn number(told: Answer) -> u64
+    ensures { result ≡ number_in (answer_of told) }
 {
-    if word == 7 {
-        return first;
+    match told {
+        Answer::Refused(number) => number as u64,
+        _ => 0,
     }
-    0
 }
 
 pub fn put(answer: &mut [u8], told: Answer) -> u64
     ensures { replied_of result answer.new ≡ replied (answer_of told) answer.old }
 {
-    let fields = fields_of(told);
-    let word = fields[0];
-    let first = fields[1];
-    if answer.len() != 32 {
-        return number(word, first);
+    if answer.len() == 32 {
+        runs::put(answer, 0, &fields_of(told));
     }
-    runs::put_u64s(answer, 0, &fields[0..4]);
-    number(word, first)
+    number(told)
 }

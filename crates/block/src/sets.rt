@@ -1,18 +1,19 @@
 // The work on the sets of a block: a set's row is taken out, worked on and put back.
 ghost use Rattle.std.specs.Prelude.{◌≡◌, ◌+◌, ◌*◌, ◌%◌, ◌^◌, ◌<◌, ◌≤◌, length};
 ghost use Rattle.waymap.specs.Bits.{bit};
+ghost use Rattle.row.specs.Row.{Row, Effect};
 ghost use Rattle.row.specs.Calls.{use_of};
 ghost use Rattle.sweep.specs.Sweep.{sweep_by};
 ghost use Rattle.sweep.specs.Number.{lines_among};
 ghost use Rattle.steps.specs.Deed.{on_row, work_at};
-ghost use Rattle.block.specs.Inside.{Blocked, contents, lines_at, put_lines as put_lines_at, RowWorked, did_of, work_did, Swept};
+ghost use Rattle.block.specs.Inside.{Blocked, contents, lines_at, put_lines as put_lines_at, DoesToRow, RowWorked, did_of, work_did, Swept};
 
 use crate::layout;
 use crate::layout::Places;
 use command::{Answer, LineUse};
 use geometry::Geometry;
 use policy::Maps;
-use row::Lines;
+use row::{Done, Lines};
 use sweep::{Drops, Sweep};
 
 // What a set has beside its tags.
@@ -20,37 +21,36 @@ fn lines_at(block: &[u8], at: Places) -> Lines
     ensures { result ≡ lines_at at block.now }
 {
     Lines {
-        valid: endian::u16_at(block, at.valid),
-        dirty: endian::u16_at(block, at.dirty),
-        word: endian::u64_at(block, at.word),
+        valid: endian::at(block, at.valid),
+        dirty: endian::at(block, at.dirty),
+        word: endian::at(block, at.word),
     }
 }
 
 fn put_lines(block: &mut [u8], at: Places, lines: Lines)
     ensures { block.new ≡ put_lines_at at lines block.old }
 {
-    endian::put_u16(block, at.valid, lines.valid);
-    endian::put_u16(block, at.dirty, lines.dirty);
-    endian::put_u64(block, at.word, lines.word);
+    endian::put(block, at.valid, lines.valid);
+    endian::put(block, at.dirty, lines.dirty);
+    endian::put(block, at.word, lines.word);
 }
 
-// An access or a flush on the row at some places, given room for its tags.
-fn use_row(
+// The row at some places is taken out, worked on and put back, given room for its tags. The two callers make that room each: with a function between that
+// makes it for both, a hit took seven instructions more.
+fn work_row<F: FnOnce(&mut [u64], Lines) -> Done>(
     block: &mut [u8],
     row: &mut [u64],
     at: Places,
-    rule: usize,
-    maps: Maps,
-    usage: LineUse,
-    tag: u64,
+    work: F,
 ) -> Answer
-    requires { at.row + 8 * length row.old ≤ length block.old }
-    ensures { RowWorked at (use_of usage rule maps tag) (length row.old) block.old result block.new }
+    requires room { at.row + 8 * length row.old ≤ length block.old }
+    requires works { F.IsAlwaysCallable work }
+    ensures { (f : Row → Effect) → DoesToRow (F.post work) f → RowWorked at f (length row.old) block.old result block.new }
 {
-    runs::read_u64s(block, at.row, row);
+    runs::read(block, at.row, row);
     let lines = lines_at(block, at);
-    let done = row::use_line(row, lines, rule, maps, usage, tag);
-    runs::put_u64s(block, at.row, row);
+    let done = work(row, lines);
+    runs::put(block, at.row, row);
     put_lines(block, at, done.lines);
     done.answer
 }
@@ -65,20 +65,9 @@ pub fn use_set(block: &mut [u8], g: Geometry, maps: Maps, usage: LineUse, addres
     let at = layout::places_of(g, found.set);
     let ways = g.ways;
     let mut row = [0u64; 16];
-    use_row(block, &mut row[0..ways], at, g.rule, maps, usage, found.tag)
-}
-
-// The cleaning of the row at some places, given room for its tags.
-fn sweep_row(block: &mut [u8], row: &mut [u64], at: Places, sweep: Sweep) -> Answer
-    requires { at.row + 8 * length row.old ≤ length block.old }
-    ensures { RowWorked at (sweep_by sweep) (length row.old) block.old result block.new }
-{
-    runs::read_u64s(block, at.row, row);
-    let lines = lines_at(block, at);
-    let done = sweep::swept(row, lines, sweep);
-    runs::put_u64s(block, at.row, row);
-    put_lines(block, at, done.lines);
-    done.answer
+    work_row(block, &mut row[0..ways], at, |tags, lines| {
+        row::use_line(tags, lines, g.rule, maps, usage, found.tag)
+    })
 }
 
 // The cleaning of one set.
@@ -91,7 +80,9 @@ fn sweep_set(block: &mut [u8], g: Geometry, sweep: Sweep, set: usize) -> Answer
     let at = layout::places_of(g, set);
     let ways = g.ways;
     let mut row = [0u64; 16];
-    sweep_row(block, &mut row[0..ways], at, sweep)
+    work_row(block, &mut row[0..ways], at, |tags, lines| {
+        sweep::swept(tags, lines, sweep)
+    })
 }
 
 // The cleaning of every set.
@@ -99,16 +90,13 @@ pub fn sweep_sets(block: &mut [u8], g: Geometry, sweep: Sweep) -> Drops
     requires { Blocked g block.old }
     ensures { Swept g sweep block.old block.new result.dropped result.dirty }
 {
-    let sets = g.sets;
     let mut drops = Drops {
         dropped: 0,
         dirty: 0,
     };
-    let mut set = 0;
-    while set < sets {
+    for set in 0..g.sets {
         let answer = sweep_set(block, g, sweep, set);
         drops = sweep::added(drops, answer);
-        set = set + 1;
     }
     drops
 }
@@ -118,13 +106,10 @@ pub fn lines_among(block: &[u8], g: Geometry, map: u16) -> usize
     requires { Blocked g block.now }
     ensures { result ≡ lines_among (bit map) (contents g block.now).state.tables.valid % 2 ^ 64 }
 {
-    let sets = g.sets;
-    let mut lines = 0;
-    let mut set = 0;
-    while set < sets {
-        let valid = endian::u16_at(block, layout::TABLES + 2 * set);
-        lines = std::num::wrapping_add_usize(lines, sweep::lines_in(valid, map));
-        set += 1;
+    let mut lines: usize = 0;
+    for set in 0..g.sets {
+        let valid = endian::at(block, layout::TABLES + 2 * set);
+        lines = lines.wrapping_add(sweep::lines_in(valid, map));
     }
     lines
 }

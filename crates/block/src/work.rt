@@ -8,35 +8,35 @@ ghost use Rattle.geometry.specs.Named.{geometry_of};
 ghost use Rattle.steps.specs.Deed.{line_deed, drops_among, policy_deed};
 ghost use Rattle.block.specs.Layout.{state_of};
 ghost use Rattle.block.specs.Block.{turn_of, step_turn, state_after};
-ghost use Rattle.block.specs.Inside.{Blocked, contents, did_of, deed_did};
+ghost use Rattle.block.specs.Inside.{Blocked, contents, did_of, deed_did, told_of};
 
 use crate::{head, records, sets};
-use command::{Answer, Asked, LineUse};
+use command::{Answer, Asked, LineUse, Refusal};
 use domains::Policies;
 use geometry::Geometry;
 use policy::Maps;
 
 // An access or a flush.
-fn line(block: &mut [u8], g: Geometry, d: usize, usage: LineUse, address: u64) -> Answer
+fn line(
+    block: &mut [u8],
+    g: Geometry,
+    d: usize,
+    usage: LineUse,
+    address: u64,
+) -> Result<Answer, Refusal>
     requires blocked { Blocked g block.old }
     requires d_bound { d < 16 }
-    ensures { did_of result (contents g block.new)
+    ensures { did_of (told_of result) (contents g block.new)
         ≡ deed_did d
         (line_deed g (domain_of (contents g block.old).state.domains d) usage address (contents g block.old).state.tables)
         (contents g block.old) }
 {
     let own = records::own(block, g, d);
-    let stored = Maps {
-        hit: own.hit,
-        fill: own.fill,
-    };
-    let number = verdict::line_refusal(g.ways, stored, own.counts);
-    if number != 0 {
-        return Answer::Refused(number);
-    }
+    let stored = own.maps();
+    verdict::line_refusal(g.ways, stored, own.counts)?;
     let answer = sets::use_set(block, g, stored, usage, address);
     records::put_own(block, g, d, domains::used(own, answer));
-    answer
+    Ok(answer)
 }
 
 // The lines that a change of policy would drop, as number 7 looks at them.
@@ -50,39 +50,34 @@ fn drops(block: &[u8], g: Geometry, old: Maps, policies: Policies, d: usize, arg
 }
 
 // A change of policy.
-fn policy(block: &mut [u8], g: Geometry, d: usize, argument: u64) -> Answer
+fn policy(block: &mut [u8], g: Geometry, d: usize, argument: u64) -> Result<Answer, Refusal>
     requires blocked { Blocked g block.old }
     requires d_bound { d < 16 }
-    ensures { did_of result (contents g block.new)
+    ensures { did_of (told_of result) (contents g block.new)
         ≡ deed_did d
         (policy_deed g (domain_of (contents g block.old).state.domains d) (policies_of (contents g block.old).state.domains) d
         argument (contents g block.old).state.tables)
         (contents g block.old) }
 {
     let own = records::own(block, g, d);
-    let old = Maps {
-        hit: own.hit,
-        fill: own.fill,
-    };
+    let old = own.maps();
     let policies = records::policies(block, g);
     let dropped = drops(block, g, old, policies, d, argument);
-    let number = verdict::policy_refusal(g, policies, own.counts, dropped, d, argument);
-    if number != 0 {
-        return Answer::Refused(number);
-    }
+    verdict::policy_refusal(g, policies, own.counts, dropped, d, argument)?;
     let sweep = sweep::sweep_of(g.ways, g.rule, old, policy::new_maps(argument));
     let swept = sets::sweep_sets(block, g, sweep);
     records::put_own(block, g, d, domains::changed(own, argument, swept.dropped));
-    Answer::Policy {
+    Ok(Answer::Policy {
         dropped: swept.dropped,
         dirty: swept.dirty,
-    }
+    })
 }
 
 // What a kind asks for; a number that no byte holds is unknown.
 fn kind_of(kind: u64) -> Asked
     ensures { kind_is result ≡ kind_of kind }
 {
+    // A test and a cast: with `u8::try_from` a step took between three and four instructions more.
     if 255 < kind {
         return Asked::Unknown;
     }
@@ -90,22 +85,24 @@ fn kind_of(kind: u64) -> Asked
 }
 
 // A step, given how long the lent answer is.
-pub fn step(block: &mut [u8], answer: usize, d: usize, kind: u64, argument: u64) -> Answer
-    ensures block_after { turn_of (answer_of result) block.new ≡ step_turn block.old answer d kind argument }
+pub fn step(
+    block: &mut [u8],
+    answer: usize,
+    d: usize,
+    kind: u64,
+    argument: u64,
+) -> Result<Answer, Refusal>
+    ensures block_after { turn_of (answer_of (told_of result)) block.new ≡ step_turn block.old answer d kind argument }
     ensures block_after_2 { state_of (geometry_of block.new) block.new ≡ state_after block.old answer d kind argument }
 {
     let g = geometry::named(block);
-    let misfit = head::fits(block, g, answer);
-    if misfit != 0 {
-        return Answer::Refused(misfit);
-    }
+    head::fits(block, g, answer)?;
     if 16 <= d {
-        return Answer::Refused(3);
+        return Err(Refusal::Domain);
     }
-    let asked = kind_of(kind);
-    match asked {
+    match kind_of(kind) {
         Asked::Line(usage) => line(block, g, d, usage, argument),
         Asked::Policy => policy(block, g, d, argument),
-        Asked::Unknown => Answer::Refused(4),
+        Asked::Unknown => Err(Refusal::Kind),
     }
 }

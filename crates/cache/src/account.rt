@@ -1,10 +1,11 @@
 // A domain's record after a step.
 ghost use Rattle.std.specs.Prelude.{◌≡◌, false, ◌<◌};
 ghost use Rattle.command.specs.declared.Answer.TheVariants.{Policy, Refused};
+ghost use Rattle.command.specs.Refusal.{number_of};
 ghost use Rattle.domains.specs.Domains.{is_full, overflows, put_domain, used_domain, new_domain};
 
 use crate::Stepped;
-use command::Answer;
+use command::{Answer, Refusal};
 use domains::{Domain, Domains};
 use sweep::Drops;
 
@@ -13,16 +14,6 @@ use sweep::Drops;
 pub struct Used {
     pub answer: Answer,
     pub own: Domain,
-}
-
-// A step turned down: nothing of the domain moves.
-pub fn turned_down(number: usize, own: Domain) -> Used
-    ensures { result ≡ record { answer = Refused number; own = own } }
-{
-    Used {
-        answer: Answer::Refused(number),
-        own,
-    }
 }
 
 // After an access or a flush.
@@ -50,12 +41,12 @@ pub fn after_change(own: Domain, argument: u64, drops: Drops) -> Used
     }
 }
 
-// A step turned down before a domain is looked at.
-pub fn refused(number: usize, domains: Domains) -> Stepped
-    ensures { result ≡ record { answer = Refused number; domains = domains } }
+// A step turned down: nothing moves.
+pub fn refused(refusal: Refusal, domains: Domains) -> Stepped
+    ensures { result ≡ record { answer = Refused (number_of refusal); domains = domains } }
 {
     Stepped {
-        answer: Answer::Refused(number),
+        answer: Answer::Refused(refusal.number()),
         domains,
     }
 }
@@ -65,8 +56,10 @@ pub fn put_back(mut domains: Domains, d: usize, used: Used) -> Stepped
     requires { d < 16 }
     ensures { result ≡ record { answer = used.answer; domains = put_domain d used.own domains } }
 {
-    let answer = used.answer;
     let own = used.own;
     domains.records[d] = own;
-    Stepped { answer, domains }
+    Stepped {
+        answer: used.answer,
+        domains,
+    }
 }

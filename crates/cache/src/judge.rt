@@ -24,7 +24,7 @@ pub fn drops(
         ≡ overflows argument (drops_among ways old policies domain argument valid.now) counts }
 {
     let most = counts.dropped as usize + 16 * MAX_SETS;
-    if most <= 4_294_967_295 {
+    if most <= u32::MAX as usize {
         return 0;
     }
     let held = verdict::held_elsewhere(ways, policies, domain);

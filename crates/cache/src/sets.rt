@@ -4,13 +4,45 @@ ghost use Rattle.sweep.specs.Sweep.{sweep_by};
 ghost use Rattle.steps.specs.Step.{tables_of};
 ghost use Rattle.steps.specs.Inside.{Shaped};
 ghost use Rattle.steps.specs.Deed.{RowWork, on_row, work_at, AllSwept};
+ghost use Rattle.cache.specs.Inside.{RowCalled};
 
 use crate::place;
 use command::{Answer, LineUse};
 use geometry::Geometry;
 use policy::Maps;
-use row::Lines;
+use row::{Done, Lines};
 use sweep::{Drops, Sweep};
+
+// Work on the row of one set: its tags are lent, and what the work leaves beside them is put back.
+fn with_row<F: FnOnce(&mut [u64], Lines) -> Done>(
+    g: Geometry,
+    tags: &mut [u64],
+    valid: &mut [u16],
+    dirty: &mut [u16],
+    words: &mut [u64],
+    set: usize,
+    work: F,
+) -> Answer
+    requires shaped { Shaped g (tables_of tags.old valid.old dirty.old words.old) }
+    requires set_lt_sets { set < g.sets }
+    requires callable { F.IsAlwaysCallable work }
+    ensures { RowCalled (F.post work) g.ways set result
+        (tables_of tags.old valid.old dirty.old words.old)
+        (tables_of tags.new valid.new dirty.new words.new) }
+{
+    let span = place::span_of(g, set);
+    let lines = Lines {
+        valid: valid[set],
+        dirty: dirty[set],
+        word: words[set],
+    };
+    let done = work(&mut tags[span.start..span.stop], lines);
+    let left = done.lines;
+    valid[set] = left.valid;
+    dirty[set] = left.dirty;
+    words[set] = left.word;
+    done.answer
+}
 
 // An access or a flush in the tables.
 pub fn use_set(
@@ -28,28 +60,9 @@ pub fn use_set(
         (work_at g usage maps address (tables_of tags.old valid.old dirty.old words.old)) }
 {
     let found = place::place_of(g, address);
-    let set = found.set;
-    let span = place::span_of(g, set);
-    let start = span.start;
-    let stop = span.stop;
-    let lines = Lines {
-        valid: valid[set],
-        dirty: dirty[set],
-        word: words[set],
-    };
-    let done = row::use_line(
-        &mut tags[start..stop],
-        lines,
-        g.rule,
-        maps,
-        usage,
-        found.tag,
-    );
-    let left = done.lines;
-    valid[set] = left.valid;
-    dirty[set] = left.dirty;
-    words[set] = left.word;
-    done.answer
+    with_row(g, tags, valid, dirty, words, found.set, |row, lines| {
+        row::use_line(row, lines, g.rule, maps, usage, found.tag)
+    })
 }
 
 // The cleaning of one set in the tables.
@@ -67,20 +80,9 @@ fn sweep_set(
     ensures { RowWork result (tables_of tags.new valid.new dirty.new words.new)
         (on_row g.ways set (sweep_by sweep) (tables_of tags.old valid.old dirty.old words.old)) }
 {
-    let span = place::span_of(g, set);
-    let start = span.start;
-    let stop = span.stop;
-    let lines = Lines {
-        valid: valid[set],
-        dirty: dirty[set],
-        word: words[set],
-    };
-    let done = sweep::swept(&mut tags[start..stop], lines, sweep);
-    let left = done.lines;
-    valid[set] = left.valid;
-    dirty[set] = left.dirty;
-    words[set] = left.word;
-    done.answer
+    with_row(g, tags, valid, dirty, words, set, |row, lines| {
+        sweep::swept(row, lines, sweep)
+    })
 }
 
 // The cleaning of every set.
@@ -96,16 +98,10 @@ pub fn sweep_sets(
     ensures { AllSwept g sweep g.sets (tables_of tags.old valid.old dirty.old words.old)
         (tables_of tags.new valid.new dirty.new words.new) result.dropped result.dirty }
 {
-    let sets = g.sets;
-    let mut drops = Drops {
-        dropped: 0,
-        dirty: 0,
-    };
-    let mut set = 0;
-    while set < sets {
+    let mut drops = Drops::default();
+    for set in 0..g.sets {
         let answer = sweep_set(g, tags, valid, dirty, words, sweep, set);
         drops = sweep::added(drops, answer);
-        set = set + 1;
     }
     drops
 }

@@ -3,14 +3,13 @@ ghost use Rattle.std.specs.Prelude.{◌≡◌};
 ghost use Rattle.steps.specs.Step.{tables_of};
 ghost use Rattle.steps.specs.Inside.{Shaped};
 ghost use Rattle.steps.specs.Deed.{line_deed, policy_deed};
-ghost use Rattle.cache.specs.Inside.{deed_of};
+ghost use Rattle.cache.specs.Inside.{deed_in};
 
 use crate::account::Used;
 use crate::{account, judge, sets};
-use command::LineUse;
+use command::{LineUse, Refusal};
 use domains::{Domain, Policies};
 use geometry::Geometry;
-use policy::Maps;
 
 // An access or a flush.
 pub fn line(
@@ -22,21 +21,15 @@ pub fn line(
     own: Domain,
     usage: LineUse,
     address: u64,
-) -> Used
+) -> Result<Used, Refusal>
     requires { Shaped g (tables_of tags.old valid.old dirty.old words.old) }
-    ensures { deed_of result (tables_of tags.new valid.new dirty.new words.new)
+    ensures { deed_in own result (tables_of tags.new valid.new dirty.new words.new)
         ≡ line_deed g own usage address (tables_of tags.old valid.old dirty.old words.old) }
 {
-    let stored = Maps {
-        hit: own.hit,
-        fill: own.fill,
-    };
-    let number = verdict::line_refusal(g.ways, stored, own.counts);
-    if number != 0 {
-        return account::turned_down(number, own);
-    }
+    let stored = own.maps();
+    verdict::line_refusal(g.ways, stored, own.counts)?;
     let answer = sets::use_set(g, tags, valid, dirty, words, stored, usage, address);
-    account::after_use(own, answer)
+    Ok(account::after_use(own, answer))
 }
 
 // A change of policy, given all policies.
@@ -50,22 +43,16 @@ pub fn policy(
     policies: Policies,
     domain: usize,
     argument: u64,
-) -> Used
+) -> Result<Used, Refusal>
     requires { Shaped g (tables_of tags.old valid.old dirty.old words.old) }
-    ensures { deed_of result (tables_of tags.new valid.new dirty.new words.new)
+    ensures { deed_in own result (tables_of tags.new valid.new dirty.new words.new)
         ≡ policy_deed g own policies domain argument
         (tables_of tags.old valid.old dirty.old words.old) }
 {
-    let old = Maps {
-        hit: own.hit,
-        fill: own.fill,
-    };
+    let old = own.maps();
     let drops = judge::drops(g.ways, valid, old, own.counts, policies, domain, argument);
-    let number = verdict::policy_refusal(g, policies, own.counts, drops, domain, argument);
-    if number != 0 {
-        return account::turned_down(number, own);
-    }
+    verdict::policy_refusal(g, policies, own.counts, drops, domain, argument)?;
     let sweep = sweep::sweep_of(g.ways, g.rule, old, policy::new_maps(argument));
     let drops = sets::sweep_sets(g, tags, valid, dirty, words, sweep);
-    account::after_change(own, argument, drops)
+    Ok(account::after_change(own, argument, drops))
 }

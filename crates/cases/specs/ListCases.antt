@@ -1,6 +1,6 @@
 -- Steps, lists of steps and core records: what the definitions give, and what was worked out by hand from document 01, "Steps", "The struck-out run" and "Trace
 -- file and listing", and from document 02's jobs 2, 4, 5 and 6. A test counts as 1 where it holds.
-use Rattle.std.specs.Prelude.{Bool, true, false, cond, List, [], ◌∷◌, ◌++◌, map, ℕ, ◌+◌, replicate}
+use Rattle.std.specs.Prelude.{Bool, true, false, cond, List, [], ◌∷◌, ◌++◌, map, ℕ, ◌+◌, replicate, Ok, Err}
 use Rattle.command.specs.Command.{Command, code_of, argument_of, command_of, commands_of, command_is}
 use Rattle.command.specs.Kind.{Kind, access, flush, policy, unknown, kind_of, kind_is}
 use Rattle.command.specs.Answer.{answer_of}
@@ -8,6 +8,7 @@ use Rattle.command.specs.declared.Answer.{Answer}
 use Rattle.command.specs.declared.Answer.TheVariants.{Hit, Refused}
 use Rattle.command.specs.declared.Asked.TheVariants as Asked
 use Rattle.command.specs.declared.LineUse.TheVariants as Uses
+use Rattle.command.specs.declared.Refusal.TheVariants as Refusals
 use Rattle.selectors.specs.Selectors.{
   Meant,
   plain,
@@ -172,7 +173,9 @@ cores =
       printed = 0 ∷ 1 ∷ 8 ∷ 2 ∷ 1 ∷ 9 ∷ 5 ∷ 16 ∷ 7 ∷ [];
     }
     ∷ record {
-      given = meaning (meaning_is (Meanings.Plain 1 2 3)) ++ (meaning (meaning_is (Meanings.Select (core 1 2 3))) ++ meaning (meaning_is (Meanings.Refused 3)));
+      given =
+          meaning (meaning_is (Ok (Meanings.Plain 1 2 3))) ++ (meaning (meaning_is (Ok (Meanings.Select (core 1 2 3))))
+          ++ meaning (meaning_is (Err Refusals.Domain)));
       printed = 0 ∷ 1 ∷ 2 ∷ 3 ∷ 1 ∷ 1 ∷ 2 ∷ 3 ∷ 2 ∷ 3 ∷ [];
     }
     ∷ []
@@ -204,7 +207,8 @@ struck =
     ∷ record { given = taken (purge_of 0 three_codes (1 ∷ 2 ∷ 3 ∷ []) (sevens 4) (eights 3)); printed = 2 ∷ 0 ∷ (sevens 4 ++ eights 3) }
     ∷ record { given = taken (purge_of 0 three_codes (1 ∷ 2 ∷ 3 ∷ []) (sevens 3) (eights 2)); printed = 2 ∷ 0 ∷ (sevens 3 ++ eights 2) }
     ∷ record { given = taken (purge_of 0 three_codes (1 ∷ 2 ∷ 3 ∷ []) (sevens 3) (eights 4)); printed = 2 ∷ 0 ∷ (sevens 3 ++ eights 4) }
-    ∷ record { given = taken (taken_of (record { number = 1; count = 2 }) (3 ∷ []) (4 ∷ [])); printed = 1 ∷ 2 ∷ 3 ∷ 4 ∷ [] }
+    ∷ record { given = taken (taken_of (Ok 2) (3 ∷ []) (4 ∷ [])); printed = 0 ∷ 2 ∷ 3 ∷ 4 ∷ [] }
+    ∷ record { given = taken (taken_of (Err Refusals.Limits) (3 ∷ []) (4 ∷ [])); printed = 1 ∷ 0 ∷ 3 ∷ 4 ∷ [] }
     ∷ []
 
 -- ---- A step of a core

@@ -1,6 +1,6 @@
 -- The rules called alone, and the calls of each rule: what they give, and what was worked out by hand from document 01, "The tree and the bits", and from
 -- document 02's jobs 1, 4 and 8. A test counts as 1 where it holds.
-use Rattle.std.specs.Prelude.{Bool, true, cond, List, [], ◌∷◌, ◌++◌, ℕ}
+use Rattle.std.specs.Prelude.{Bool, true, cond, List, [], ◌∷◌, ◌++◌, ℕ, Ok, Err}
 use Rattle.waymap.specs.Bits.{bit, lowest, put}
 use Rattle.waymap.specs.Ways.{is_ways, takes}
 use Rattle.tree.specs.Tree as TreeRule
@@ -11,11 +11,12 @@ use Rattle.lru_rule.specs.Calls as Lru
 use Rattle.lru_rule.specs.declared.Moves.{Moves}
 use Rattle.replacement.specs.Rule.{tree, nru, lru}
 use Rattle.replacement.specs.Calls as Alone
-use Rattle.replacement.specs.Calls.{Result, answer_of}
+use Rattle.replacement.specs.Calls.{Result}
+use Rattle.replacement.specs.Answer.{answer_of, outcome_of, choice_of}
 use Rattle.replacement.specs.Change.{change_of, change_by}
 use Rattle.replacement.specs.declared.Change.{Change}
 use Rattle.replacement.specs.declared.Change.TheVariants.{Clear, Raise, Age, Stay}
-use Rattle.replacement.specs.declared.Reply.TheVariants.{Way, Done, OutsideLimits, OutOfReach, SharedNode}
+use Rattle.replacement.specs.declared.Refusal.TheVariants.{OutsideLimits, OutOfReach, SharedNode}
 use Rattle.cases.specs.Case.{Case}
 
 -- A test as a number.
@@ -167,8 +168,17 @@ abbrev alone : List Case
 alone =
     -- the numbers and values of the answers
     record {
-      given = answer_of (Way 6) ++ (answer_of Done ++ (answer_of OutsideLimits ++ (answer_of OutOfReach ++ answer_of SharedNode)));
+      given =
+          (choice_of 9 (Ok (record { way = 6; word = 3 }))).answer ++ (answer_of (Ok tt)
+          ++ (answer_of (Err OutsideLimits) ++ (answer_of (Err OutOfReach) ++ answer_of (Err SharedNode))));
       printed = 0 ∷ 6 ∷ 0 ∷ 1 ∷ 5 ∷ 9 ∷ [];
+    }
+    -- the word that a call leaves: the one that it gives, or, refused, the one that it was lent
+    ∷ record {
+      given =
+          left (choice_of 9 (Ok (record { way = 6; word = 3 }))) ++ (left (choice_of 9 (Err OutOfReach))
+          ++ (left (outcome_of 9 (Ok 3)) ++ left (outcome_of 9 (Err OutOfReach))));
+      printed = 0 ∷ 6 ∷ 3 ∷ 5 ∷ 9 ∷ 0 ∷ 3 ∷ 5 ∷ 9 ∷ [];
     }
     -- "a word and a map give a victim and the word before its touch"
     ∷ record { given = left (Alone.victim_of 4 0 1 15); printed = 0 ∷ 2 ∷ 1 ∷ [] }

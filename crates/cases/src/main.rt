@@ -3,42 +3,35 @@
 // listed by the public call. Cases B to I and those of job 1 are shown of the rules themselves, in proofs/Worked.antt.
 #![tactic(auto)]
 
-ghost use Rattle.std.specs.Prelude.{◌≤◌};
 ghost use Rattle.io.specs.Counts.{IsPrefixLen};
-ghost use Rattle.geometry.specs.Geometry.{max_sets};
 
 use cache::Stepped;
 use command::{Answer, Command};
 use geometry::{Geometry, MAX_SETS};
-use std::io::{Stdin, Stdout};
+use std::io::{Result, Stdin, Stdout, Write};
 use trace::TAGS;
 
 // How many bytes the first line has.
 fn line_length(text: &[u8]) -> usize
     ensures { IsPrefixLen result text.now }
 {
-    let mut i = 0;
-    while i < text.len() {
-        if text[i] == b'\n' {
-            return i + 1;
-        }
-        i += 1;
+    match text.iter().position(|byte| *byte == b'\n') {
+        Some(end) => end + 1,
+        None => text.len(),
     }
-    i
 }
 
 // Writes a text, or its first line alone.
-fn put(stdout: &mut Stdout, text: &[u8], whole: bool) {
+fn put(stdout: &mut Stdout, text: &[u8], whole: bool) -> Result<()> {
     if whole {
-        streams::write_all(stdout, text);
-        return;
+        return streams::write_all(stdout, text);
     }
     let n = line_length(text);
-    streams::write_all(stdout, &text[..n]);
+    streams::write_all(stdout, &text[..n])
 }
 
 // Writes the listing of a file, or its first line alone.
-fn show(stdout: &mut Stdout, file: &[u8], whole: bool) {
+fn show(stdout: &mut Stdout, file: &[u8], whole: bool) -> Result<()> {
     let mut tags = [0u64; TAGS];
     let mut valid = [0u16; tracefile::MAX_SETS];
     let mut dirty = [0u16; tracefile::MAX_SETS];
@@ -47,11 +40,11 @@ fn show(stdout: &mut Stdout, file: &[u8], whole: bool) {
     let length = trace::list(
         file, &mut tags, &mut valid, &mut dirty, &mut words, &mut out,
     );
-    put(stdout, &out[..length], whole);
+    put(stdout, &out[..length], whole)
 }
 
 // "1 set, 4 ways, rule 0, 9 steps": eight bytes of header, nine codes of two bytes, nine arguments of eight.
-fn case_a(stdout: &mut Stdout) {
+fn case_a(stdout: &mut Stdout) -> Result<()> {
     show(
         stdout,
         b"\x01\0\x04\0\x09\0\0\0\
@@ -60,50 +53,26 @@ fn case_a(stdout: &mut Stdout) {
           \x40\0\0\0\0\0\0\0\0\0\0\0\0\0\0\0\x80\0\0\0\0\0\0\0\
           \x40\0\0\0\0\0\0\0\0\0\0\0\0\0\0\0\x80\0\0\0\0\0\0\0",
         true,
-    );
-}
-
-// Writes a space and a number.
-fn put_field(stdout: &mut Stdout, n: usize) {
-    streams::write_all(stdout, b" ");
-    streams::print_decimal(stdout, n as u64);
+    )
 }
 
 // Writes the answer to a change of policy, and the line's end.
-fn put_answer(stdout: &mut Stdout, answer: Answer) {
+fn put_answer(stdout: &mut Stdout, answer: Answer) -> Result<()> {
     match answer {
-        Answer::Policy { dropped, dirty } => {
-            streams::write_all(stdout, b"policy");
-            put_field(stdout, dropped);
-            put_field(stdout, dirty);
-        }
-        Answer::Refused(number) => {
-            streams::write_all(stdout, b"refused");
-            put_field(stdout, number);
-        }
-        _ => {}
+        Answer::Policy { dropped, dirty } => writeln!(stdout, "policy {dropped} {dirty}"),
+        Answer::Refused(number) => writeln!(stdout, "refused {number}"),
+        _ => writeln!(stdout),
     }
-    streams::write_all(stdout, b"\n");
-}
-
-// How many of the named sets there is room for.
-fn lent(sets: usize) -> usize
-    ensures { result ≤ max_sets }
-{
-    if MAX_SETS < sets {
-        return MAX_SETS;
-    }
-    sets
 }
 
 // Calls for a change of policy, by which domain 0 takes way 0 of a fresh cache of 2 ways under rule 0, and writes the number of sets and the
 // answer. As many sets are lent, or all that there may be.
-fn call(stdout: &mut Stdout, sets: usize) {
+fn call(stdout: &mut Stdout, sets: usize) -> Result<()> {
     let mut tags = [0u64; 2 * MAX_SETS];
     let mut valid = [0u16; MAX_SETS];
     let mut dirty = [0u16; MAX_SETS];
     let mut words = [0u64; MAX_SETS];
-    let rows = lent(sets);
+    let rows = sets.min(MAX_SETS);
     let cells = 2 * rows;
     let stepped = cache::step(
         Geometry {
@@ -120,37 +89,32 @@ fn call(stdout: &mut Stdout, sets: usize) {
         16,
         0x10001,
     );
-    let answer = stepped.answer;
-    streams::print_decimal(stdout, sets as u64);
-    streams::write_all(stdout, b" ");
-    put_answer(stdout, answer);
+    write!(stdout, "{sets} ")?;
+    put_answer(stdout, stepped.answer)
 }
 
 // Lists a file without steps that names so many sets of 2 ways.
-fn naming(stdout: &mut Stdout, sets: u16) {
-    show(
-        stdout,
-        &[(sets % 256) as u8, (sets / 256) as u8, 2, 0, 0, 0, 0, 0],
-        true,
-    );
+fn naming(stdout: &mut Stdout, sets: u16) -> Result<()> {
+    let [low, high] = sets.to_le_bytes();
+    show(stdout, &[low, high, 2, 0, 0, 0, 0, 0], true)
 }
 
 // "4,096 stands, 257 and 8,192 are refused 1 by a call, and a file naming 257 is refused 10". So are others that name more than 256
 // sets; those that name 0 or 3 are refused 1.
-fn case_j(stdout: &mut Stdout) {
-    call(stdout, 4096);
-    call(stdout, 257);
-    call(stdout, 8192);
-    naming(stdout, 256);
-    naming(stdout, 257);
-    naming(stdout, 512);
-    naming(stdout, 4096);
-    naming(stdout, 0);
-    naming(stdout, 3);
+fn case_j(stdout: &mut Stdout) -> Result<()> {
+    call(stdout, 4096)?;
+    call(stdout, 257)?;
+    call(stdout, 8192)?;
+    naming(stdout, 256)?;
+    naming(stdout, 257)?;
+    naming(stdout, 512)?;
+    naming(stdout, 4096)?;
+    naming(stdout, 0)?;
+    naming(stdout, 3)
 }
 
 // "domain 15 stands, 16 is refused 3": each takes way 0.
-fn case_k(stdout: &mut Stdout) {
+fn case_k(stdout: &mut Stdout) -> Result<()> {
     show(
         stdout,
         &[
@@ -158,23 +122,23 @@ fn case_k(stdout: &mut Stdout) {
             0,
         ],
         true,
-    );
+    )
 }
 
 // "4,096 steps stand, 4,097 are refused 10"
-fn case_l(stdout: &mut Stdout) {
+fn case_l(stdout: &mut Stdout) -> Result<()> {
     let mut file = [0u8; 40978];
     file[0] = 1;
     file[2] = 2;
     file[5] = 16;
-    show(stdout, &file[..40968], false);
+    show(stdout, &file[..40968], false)?;
     file[4] = 1;
-    show(stdout, &file, false);
+    show(stdout, &file, false)
 }
 
 // 1 set, 4 ways, 7 steps: domain 0 takes all ways, loads lines 0 to 3, line 0 again, and line 4. Under rule 2 that evicts line 1, which was
 // used longest ago; Tree-PLRU evicts line 2 and NRU line 0. Rule 2 stands, 3 is refused 1.
-fn true_lru(stdout: &mut Stdout) {
+fn true_lru(stdout: &mut Stdout) -> Result<()> {
     show(
         stdout,
         b"\x01\0\x04\x02\x07\0\0\0\
@@ -183,30 +147,21 @@ fn true_lru(stdout: &mut Stdout) {
           \x80\0\0\0\0\0\0\0\xc0\0\0\0\0\0\0\0\0\0\0\0\0\0\0\0\
           \0\x01\0\0\0\0\0\0",
         true,
-    );
-    show(stdout, &[1u8, 0, 4, 3, 0, 0, 0, 0], true);
+    )?;
+    show(stdout, &[1u8, 0, 4, 3, 0, 0, 0, 0], true)
 }
 
 // Call i of domain 0 on the most lines that there may be: it takes all ways, stores to each line, and is removed.
 fn nth(i: u64) -> Command {
-    if i == 0 {
-        return Command {
-            domain: 0,
-            kind: 16,
-            argument: 0xffffffff,
-        };
-    }
-    if i <= 65536 {
-        return Command {
-            domain: 0,
-            kind: 2,
-            argument: 64 * (i - 1),
-        };
-    }
+    let (kind, argument) = match i {
+        0 => (16, 0xffffffff),
+        1..=65536 => (2, 64 * (i - 1)),
+        _ => (16, 0),
+    };
     Command {
         domain: 0,
-        kind: 16,
-        argument: 0,
+        kind,
+        argument,
     }
 }
 
@@ -244,12 +199,12 @@ fn calls(
 }
 
 // 4,096 sets of 16 ways: the removal drops 65,536 lines, all dirty.
-fn every_line(stdout: &mut Stdout) {
+fn every_line(stdout: &mut Stdout) -> Result<()> {
     let mut tags = [0u64; 16 * MAX_SETS];
     let mut valid = [0u16; MAX_SETS];
     let mut dirty = [0u16; MAX_SETS];
     let mut words = [0u64; MAX_SETS];
-    put_answer(stdout, calls(&mut tags, &mut valid, &mut dirty, &mut words));
+    put_answer(stdout, calls(&mut tags, &mut valid, &mut dirty, &mut words))
 }
 
 // Files of ours, beside the cases on lent states in specs/. 1 set, 2 ways, 13 steps: domain 0 takes both ways; kinds 4, 17, 36, 41 and 255 are
@@ -257,7 +212,7 @@ fn every_line(stdout: &mut Stdout) {
 // for core 32; so core 0 still loads for domain 0.
 // Then 4 ways. Under rule 0, 7 steps: beside maps 5 and 5, maps 7 and 7 are 8, which comes before 9, and maps 10 and 10 are 9; beside hit map 5 with
 // fill map 1 these stand. Arguments 2^32 and 2^63 + 0x30003 are 5. Under rule 1, 2 steps: maps 5 and 10 stand.
-fn numbers(stdout: &mut Stdout) {
+fn numbers(stdout: &mut Stdout) -> Result<()> {
     show(
         stdout,
         b"\x01\0\x02\0\x0d\0\0\0\
@@ -268,7 +223,7 @@ fn numbers(stdout: &mut Stdout) {
           \0\0\0\0\0\0\0\0\x10\0\0\0\0\0\0\0\0\0\0\x01\0\0\0\0\0\0\0\0\0\0\0\0\
           \0\0\0\0\0\0\0\0",
         true,
-    );
+    )?;
     show(
         stdout,
         b"\x01\0\x04\0\x07\0\0\0\
@@ -276,21 +231,21 @@ fn numbers(stdout: &mut Stdout) {
           \x05\0\x05\0\0\0\0\0\x07\0\x07\0\0\0\0\0\x0a\0\x0a\0\0\0\0\0\x05\0\x01\0\0\0\0\0\
           \x0a\0\x0a\0\0\0\0\0\0\0\0\0\x01\0\0\0\x03\0\x03\0\0\0\0\x80",
         true,
-    );
+    )?;
     show(
         stdout,
         b"\x01\0\x04\x01\x02\0\0\0\
           \0\x10\x01\x10\
           \x05\0\x05\0\0\0\0\0\x0a\0\x0a\0\0\0\0\0",
         true,
-    );
+    )
 }
 
 // 1 set, 4 ways, 9 steps: domain 0 takes all ways, stores to line 0 and loads lines 1 to 3, and leaves ways 2 and 3 out of its fill map. Line 0 is
 // flushed from way 3 and line 1 hit in way 2, both locked; line 4 evicts line 2 from way 1, though way 3 is empty.
 // Then 16 ways, 8 steps: domain 0 takes ways 0, 5, 10 and 15, with free nodes 0, 1 and 2, and loads lines 0 to 3, so that each of them points right; a
 // hit in way 15 turns nodes 0 and 2 left. The next evictions take way 5, by nodes 0 and 1, and way 10, by nodes 0 and 2.
-fn lines(stdout: &mut Stdout) {
+fn lines(stdout: &mut Stdout) -> Result<()> {
     show(
         stdout,
         b"\x01\0\x04\0\x09\0\0\0\
@@ -299,7 +254,7 @@ fn lines(stdout: &mut Stdout) {
           \xc0\0\0\0\0\0\0\0\x0f\0\x03\0\0\0\0\0\0\0\0\0\0\0\0\0\x40\0\0\0\0\0\0\0\
           \0\x01\0\0\0\0\0\0",
         true,
-    );
+    )?;
     show(
         stdout,
         b"\x01\0\x10\0\x08\0\0\0\
@@ -307,35 +262,39 @@ fn lines(stdout: &mut Stdout) {
           \x21\x84\x21\x84\0\0\0\0\0\0\0\0\0\0\0\0\x40\0\0\0\0\0\0\0\x80\0\0\0\0\0\0\0\
           \xc0\0\0\0\0\0\0\0\0\0\0\0\0\0\0\0\0\x01\0\0\0\0\0\0\x40\x01\0\0\0\0\0\0",
         true,
-    );
+    )
 }
 
 // A file of 4,096 steps, and one byte more.
-fn longer(stdin: &mut Stdin, stdout: &mut Stdout) {
-    let mut file = [0u8; 40969];
-    let got = streams::read_file(stdin, &mut file);
-    let count = got.count;
-    show(stdout, &file[..count], true);
+fn longer(stdin: &mut Stdin, stdout: &mut Stdout) -> Result<()> {
+    let mut file = [0; streams::ROOM];
+    let count = streams::read_file(stdin, &mut file).unwrap_or_else(|unread| unread.count);
+    show(stdout, &file[..count], true)
+}
+
+// Writes all cases, up to the first that cannot be written.
+fn run(stdin: &mut Stdin, stdout: &mut Stdout) -> Result<()> {
+    writeln!(stdout, "case A")?;
+    case_a(stdout)?;
+    writeln!(stdout, "case J")?;
+    case_j(stdout)?;
+    writeln!(stdout, "case K")?;
+    case_k(stdout)?;
+    writeln!(stdout, "case L")?;
+    case_l(stdout)?;
+    writeln!(stdout, "true LRU")?;
+    true_lru(stdout)?;
+    writeln!(stdout, "kinds, and numbers 5, 8 and 9")?;
+    numbers(stdout)?;
+    writeln!(stdout, "locked lines, and sixteen ways")?;
+    lines(stdout)?;
+    writeln!(stdout, "every line dropped")?;
+    every_line(stdout)?;
+    writeln!(stdout, "one byte more than the longest")?;
+    longer(stdin, stdout)
 }
 
 fn main(rt: HostRuntime) {
-    let stdout = &mut rt.stdout();
-    streams::write_all(stdout, b"case A\n");
-    case_a(stdout);
-    streams::write_all(stdout, b"case J\n");
-    case_j(stdout);
-    streams::write_all(stdout, b"case K\n");
-    case_k(stdout);
-    streams::write_all(stdout, b"case L\n");
-    case_l(stdout);
-    streams::write_all(stdout, b"true LRU\n");
-    true_lru(stdout);
-    streams::write_all(stdout, b"kinds, and numbers 5, 8 and 9\n");
-    numbers(stdout);
-    streams::write_all(stdout, b"locked lines, and sixteen ways\n");
-    lines(stdout);
-    streams::write_all(stdout, b"every line dropped\n");
-    every_line(stdout);
-    streams::write_all(stdout, b"one byte more than the longest\n");
-    longer(&mut rt.stdin(), stdout);
+    // A failed write ends the cases, and is not told.
+    let _ = run(&mut rt.stdin(), &mut rt.stdout());
 }

@@ -3,3 +3,4 @@ pub mod CommandLaws
 pub mod ListLaws
 pub mod KindLaws
 pub mod AnswerLaws
+pub mod RefusalLaws

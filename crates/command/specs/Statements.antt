@@ -4,9 +4,11 @@ use Rattle.std.specs.Prelude.{◌≡◌, ℕ, ◌<◌}
 use Rattle.command.specs.Command.{command_is, Command, command_of, code_of, argument_of}
 use Rattle.command.specs.Kind.{kind_is}
 use Rattle.command.specs.Answer.{answer_of}
+use Rattle.command.specs.Refusal.{number_of}
 use Rattle.command.specs.declared.Command.{Command as Given}
 use Rattle.command.specs.declared.Asked.{Asked}
 use Rattle.command.specs.declared.Answer.{Answer}
+use Rattle.command.specs.declared.Refusal.{Refusal}
 
 -- Every number is the code of the step that it says.
 abbrev pub CodeOfCommand : Type 0
@@ -16,7 +18,7 @@ CodeOfCommand = (code argument : ℕ) → code_of (command_of code argument) ≡
 abbrev pub CommandOfCode : Type 0
 CommandOfCode = (c : Command) → c.domain < 256 → command_of (code_of c) (argument_of c) ≡ c
 
--- What the contracts equate tells any two of the code's steps, kinds and answers apart, and so settles each whole.
+-- What the contracts equate tells any two of the code's steps, kinds, answers and refusals apart, and so settles each whole.
 abbrev pub CommandInjective : Type 0
 CommandInjective = (p q : Given) → command_is p ≡ command_is q → p ≡ q
 
@@ -25,3 +27,6 @@ KindInjective = (p q : Asked) → kind_is p ≡ kind_is q → p ≡ q
 
 abbrev pub AnswerInjective : Type 0
 AnswerInjective = (a b : Answer) → answer_of a ≡ answer_of b → a ≡ b
+
+abbrev pub NumberInjective : Type 0
+NumberInjective = (r s : Refusal) → number_of r ≡ number_of s → r ≡ s

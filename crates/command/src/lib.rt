@@ -4,6 +4,7 @@
 ghost use Rattle.std.specs.Prelude.{◌≡◌};
 ghost use Rattle.command.specs.Command.{command_of, code_of, command_is};
 ghost use Rattle.command.specs.Kind.{kind_of, kind_is};
+ghost use Rattle.command.specs.Refusal.{number_of};
 
 // The domain that a step names, its kind and its argument.
 #[derive(Clone, Copy)]
@@ -39,7 +40,7 @@ pub enum LineUse {
     Flush,
 }
 
-// What a kind number asks for.
+// What a kind number asks for. No Option: laws of steps and verdict go by the three cases, and theorem `kind_injective` tells them apart.
 #[derive(Clone, Copy)]
 pub enum Asked {
     Line(LineUse),
@@ -59,6 +60,57 @@ pub fn kind_of(kind: u8) -> Asked
     }
 }
 
+// Why a call is turned down: document 01's numbers, from 1 on.
+#[derive(Clone, Copy, PartialEq, Eq)]
+pub enum Refusal {
+    // The sets, the ways or the rule are outside the limits.
+    Limits,
+    // A table has not the length of the geometry.
+    Lengths,
+    // No domain has the number, or a selector names none.
+    Domain,
+    // The kind is unknown.
+    Kind,
+    // The argument of a change of policy or of a write of selectors.
+    Argument,
+    // The domain has no ways.
+    NoWays,
+    // A count is full, or would be carried past the largest number.
+    FullCount,
+    // Another domain holds a way of the hit map.
+    SharedWay,
+    // A node is free for another domain's fill map too.
+    SharedNode,
+    // The file is no trace file.
+    File,
+    // The core is not in the list, or the list is too long.
+    Core,
+    // The block or the answer has not its length, or the block's zero bytes are not zero.
+    Block,
+}
+
+impl Refusal {
+    // The number by which it is told.
+    pub fn number(self) -> usize
+        ensures { result ≡ number_of self }
+    {
+        match self {
+            Refusal::Limits => 1,
+            Refusal::Lengths => 2,
+            Refusal::Domain => 3,
+            Refusal::Kind => 4,
+            Refusal::Argument => 5,
+            Refusal::NoWays => 6,
+            Refusal::FullCount => 7,
+            Refusal::SharedWay => 8,
+            Refusal::SharedNode => 9,
+            Refusal::File => 10,
+            Refusal::Core => 11,
+            Refusal::Block => 12,
+        }
+    }
+}
+
 // What a step answers.
 #[derive(Clone, Copy)]
 pub enum Answer {
@@ -70,6 +122,6 @@ pub enum Answer {
     Absent,
     // The valid lines that a change of policy dropped, and how many of them were dirty.
     Policy { dropped: usize, dirty: usize },
-    // The number of the refusal.
+    // The number of the refusal, and no `Refusal`: laws of steps, cores and block speak of `Refused n` for every number n.
     Refused(usize),
 }

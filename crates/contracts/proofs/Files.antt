@@ -1,27 +1,22 @@
 -- Contracts of numbers in bytes, trace files and listings: each asks nothing, and settles
 -- what is said here for every input.
 use Rattle.command.specs.Command.{command_is}
+use Rattle.command.specs.Refusal.{number_in}
 use Rattle.contracts.proofs.Exactly.{exactly}
-use Rattle.contracts.specs.Contract.{Held}
-use Rattle.endian.proofs.put_u16.Reads as EndianPutU16
-use Rattle.endian.proofs.put_u32.Reads as EndianPutU32
-use Rattle.endian.proofs.put_u64.Reads as EndianPutU64
-use Rattle.endian.proofs.u16_at.Reads as EndianU16At
-use Rattle.endian.proofs.u32_at.Reads as EndianU32At
-use Rattle.endian.proofs.u64_at.Reads as EndianU64At
-use Rattle.endian.proofs.u8_at.Reads as EndianU8At
+use Rattle.contracts.specs.Contract.{Held, Settled}
+use Rattle.endian.proofs.at.Reads as EndianAt
+use Rattle.endian.proofs.put.Reads as EndianPut
 use Rattle.endian.specs.Bytes.{field, put_field}
 use Rattle.io.specs.Counts.{IsPrefixLen}
-use Rattle.runs.proofs.put_u32s.Reads as RunsPutU32s
-use Rattle.runs.proofs.put_u64s.Reads as RunsPutU64s
-use Rattle.runs.proofs.read_u32s.Reads as RunsReadU32s
-use Rattle.runs.proofs.read_u64s.Reads as RunsReadU64s
+use Rattle.runs.proofs.put.Reads as RunsPut
+use Rattle.runs.proofs.read.Reads as RunsRead
 use Rattle.script.proofs.line_after.Reads as ScriptLineAfter
 use Rattle.script.proofs.numbers_of.Reads as ScriptNumbersOf
 use Rattle.script.specs.Script.{line_after, numbers_of}
+use Rattle.runs.proofs.RunLaws.{put_plain, read_plain}
 use Rattle.runs.specs.Runs.{put_run, read_run}
 use Rattle.steps.specs.Step.{tables_of}
-use Rattle.std.proofs.Common.{ℕ, [], min, take, decimal, IfSome, IsTrue, subst}
+use Rattle.std.proofs.Common.{ℕ, [], min, take, decimal, IfOk, IfSome, OnOk, subst, Ok, Err, IsErrOf, ◌⊎◌}
 use Rattle.std.specs.Io.{StartsWith}
 use Rattle.std.specs.Io.KnownBytes.{Appends, IsAtEnd}
 use Rattle.std.specs.declared.env.Env as Env
@@ -30,78 +25,154 @@ use Rattle.std.specs.declared.io.traits.Write as Write
 use Rattle.streams.proofs.arg.Reads as StreamsArg
 use Rattle.streams.proofs.print_decimal.Reads as StreamsPrintDecimal
 use Rattle.streams.proofs.read_file.Reads as StreamsReadFile
+use Rattle.streams.proofs.show_input.Reads as StreamsShowInput
 use Rattle.streams.proofs.write_all.Reads as StreamsWriteAll
+use Rattle.streams.specs.Kept.{kept}
+use Rattle.streams.specs.Shown.{Shown}
+use Rattle.streams.specs.contracts.show_input.F-FnOnce as ShowCall
+use Rattle.streams.specs.declared.Failure.TheVariants.{Input, Output}
+use Rattle.std.specs.declared.io.Error.{Error}
 use Rattle.trace.proofs.list.Reads as TraceList
 use Rattle.trace.specs.Calls.{list_of, listed_of}
 use Rattle.tracefile.proofs.command_at.Reads as TracefileCommandAt
 use Rattle.tracefile.proofs.refusal.Reads as TracefileRefusal
 use Rattle.tracefile.proofs.steps.Reads as TracefileSteps
 use Rattle.tracefile.specs.File.{command_at, file_refusal, step_count}
+use Rattle.endian.specs.contracts.numbers.U64Number.TheImpl as U64Number
+use Rattle.endian.specs.contracts.numbers.U32Number.TheImpl as U32Number
+use Rattle.endian.specs.contracts.numbers.U16Number.TheImpl as U16Number
+use Rattle.endian.specs.contracts.numbers.U8Number.TheImpl as U8Number
+use Rattle.std.specs.declared.clone.Clone as Clone
 use Prim.Native.Nat.{◌≤◌}
-use denote.Param.Laws.{Laws}
+use denote.Builtin.{u8, u16, u32, u64}
+use denote.Param.Laws.{Laws, IsCopy}
 use denote.RattleType.{RattleType}
 use lib.ListN.{length}
 use mathlib.Core.List.{List, Mem, not-mem-nil}
 use mathlib.Core.Path.{◌≡◌}
 use mir.Syntax.{Dict}
 
--- ---- `endian`
+-- A type of numbers borrows nothing: no loan of it has to last.
+none_lent : {P : Type 0} (κ : ℕ) → Mem κ [] → P
+none_lent κ m = absurd (not-mem-nil m)
 
-endian_u8_at : Held EndianU8At.Asked EndianU8At.Learnt (λ κs a r e. let bytes = a.0 in let at = a.1.0 in r ≡ field at 1 bytes.now)
-endian_u8_at = exactly
+-- ---- `endian` and `runs`, at each type of numbers
 
-endian_u16_at : Held EndianU16At.Asked EndianU16At.Learnt (λ κs a r e. let bytes = a.0 in let at = a.1.0 in r ≡ field at 2 bytes.now)
-endian_u16_at = exactly
+module _ (laws : Laws u8) (copy : IsCopy u8) (dict : Dict) (its : Clone.Ghosts u8.Denot) (its_dict : Dict) where
+  endian_at_u8 : Held (EndianAt.Asked u8 laws copy U8Number.ghosts dict its its_dict) (EndianAt.Learnt u8 laws copy U8Number.ghosts dict its its_dict)
+      (λ κs a r e. let bytes = a.0 in let place = a.1.0 in r ≡ field place 1 bytes.now)
+  endian_at_u8 = record { asks_nothing = λ κs a κ m. none_lent κ m; settles = λ κs a r e h. h }
 
-endian_u32_at : Held EndianU32At.Asked EndianU32At.Learnt (λ κs a r e. let bytes = a.0 in let at = a.1.0 in r ≡ field at 4 bytes.now)
-endian_u32_at = exactly
+  endian_put_u8 : Held (EndianPut.Asked u8 laws copy U8Number.ghosts dict its its_dict) (EndianPut.Learnt u8 laws copy U8Number.ghosts dict its its_dict)
+      (λ κs a r e.
+      let bytes = a.0 in let bytes' = e.0 in let place = a.1.0 in let value = a.1.1.0 in
+      bytes'.now ≡ put_field place 1 value bytes.now)
+  endian_put_u8 = record { asks_nothing = λ κs a κ m. none_lent κ m; settles = λ κs a r e h. h }
 
-endian_u64_at : Held EndianU64At.Asked EndianU64At.Learnt (λ κs a r e. let bytes = a.0 in let at = a.1.0 in r ≡ field at 8 bytes.now)
-endian_u64_at = exactly
+  runs_read_u8s : Held (RunsRead.Asked u8 laws copy U8Number.ghosts dict its its_dict) (RunsRead.Learnt u8 laws copy U8Number.ghosts dict its its_dict)
+      (λ κs a r e.
+      let bytes = a.0 in let at = a.1.0 in let numbers = a.1.1.0 in let numbers' = e.1.1.0 in
+      numbers'.now ≡ read_run at 1 bytes.now numbers.now)
+  runs_read_u8s = record {
+    asks_nothing = λ κs a κ m. none_lent κ m;
+    settles = λ κs a r e h. read_plain a.1.0 1 a.0.now a.1.1.0.now e.1.1.0.now h;
+  }
 
-endian_put_u16 : Held EndianPutU16.Asked EndianPutU16.Learnt
-    (λ κs a r e.
-    let bytes = a.0 in let bytes' = e.0 in let at = a.1.0 in let value = a.1.1.0 in
-    bytes'.now ≡ put_field at 2 value bytes.now)
-endian_put_u16 = exactly
+  runs_put_u8s : Held (RunsPut.Asked u8 laws copy U8Number.ghosts dict its its_dict) (RunsPut.Learnt u8 laws copy U8Number.ghosts dict its its_dict)
+      (λ κs a r e.
+      let bytes = a.0 in let bytes' = e.0 in let at = a.1.0 in let numbers = a.1.1.0 in
+      bytes'.now ≡ put_run at 1 numbers.now bytes.now)
+  runs_put_u8s = record {
+    asks_nothing = λ κs a κ m. none_lent κ m;
+    settles = λ κs a r e h. put_plain a.1.0 1 a.0.now a.1.1.0.now e.0.now h;
+  }
 
-endian_put_u32 : Held EndianPutU32.Asked EndianPutU32.Learnt
-    (λ κs a r e.
-    let bytes = a.0 in let bytes' = e.0 in let at = a.1.0 in let value = a.1.1.0 in
-    bytes'.now ≡ put_field at 4 value bytes.now)
-endian_put_u32 = exactly
+module _ (laws : Laws u16) (copy : IsCopy u16) (dict : Dict) (its : Clone.Ghosts u16.Denot) (its_dict : Dict) where
+  endian_at_u16 : Held (EndianAt.Asked u16 laws copy U16Number.ghosts dict its its_dict) (EndianAt.Learnt u16 laws copy U16Number.ghosts dict its its_dict)
+      (λ κs a r e. let bytes = a.0 in let place = a.1.0 in r ≡ field place 2 bytes.now)
+  endian_at_u16 = record { asks_nothing = λ κs a κ m. none_lent κ m; settles = λ κs a r e h. h }
 
-endian_put_u64 : Held EndianPutU64.Asked EndianPutU64.Learnt
-    (λ κs a r e.
-    let bytes = a.0 in let bytes' = e.0 in let at = a.1.0 in let value = a.1.1.0 in
-    bytes'.now ≡ put_field at 8 value bytes.now)
-endian_put_u64 = exactly
+  endian_put_u16 : Held (EndianPut.Asked u16 laws copy U16Number.ghosts dict its its_dict) (EndianPut.Learnt u16 laws copy U16Number.ghosts dict its its_dict)
+      (λ κs a r e.
+      let bytes = a.0 in let bytes' = e.0 in let place = a.1.0 in let value = a.1.1.0 in
+      bytes'.now ≡ put_field place 2 value bytes.now)
+  endian_put_u16 = record { asks_nothing = λ κs a κ m. none_lent κ m; settles = λ κs a r e h. h }
 
--- ---- `runs`
+  runs_read_u16s : Held (RunsRead.Asked u16 laws copy U16Number.ghosts dict its its_dict) (RunsRead.Learnt u16 laws copy U16Number.ghosts dict its its_dict)
+      (λ κs a r e.
+      let bytes = a.0 in let at = a.1.0 in let numbers = a.1.1.0 in let numbers' = e.1.1.0 in
+      numbers'.now ≡ read_run at 2 bytes.now numbers.now)
+  runs_read_u16s = record {
+    asks_nothing = λ κs a κ m. none_lent κ m;
+    settles = λ κs a r e h. read_plain a.1.0 2 a.0.now a.1.1.0.now e.1.1.0.now h;
+  }
 
-runs_read_u32s : Held RunsReadU32s.Asked RunsReadU32s.Learnt
-    (λ κs a r e.
-    let bytes = a.0 in let at = a.1.0 in let numbers = a.1.1.0 in let numbers' = e.1.1.0 in
-    numbers'.now ≡ read_run at 4 bytes.now numbers.now)
-runs_read_u32s = exactly
+  runs_put_u16s : Held (RunsPut.Asked u16 laws copy U16Number.ghosts dict its its_dict) (RunsPut.Learnt u16 laws copy U16Number.ghosts dict its its_dict)
+      (λ κs a r e.
+      let bytes = a.0 in let bytes' = e.0 in let at = a.1.0 in let numbers = a.1.1.0 in
+      bytes'.now ≡ put_run at 2 numbers.now bytes.now)
+  runs_put_u16s = record {
+    asks_nothing = λ κs a κ m. none_lent κ m;
+    settles = λ κs a r e h. put_plain a.1.0 2 a.0.now a.1.1.0.now e.0.now h;
+  }
 
-runs_put_u32s : Held RunsPutU32s.Asked RunsPutU32s.Learnt
-    (λ κs a r e.
-    let bytes = a.0 in let bytes' = e.0 in let at = a.1.0 in let numbers = a.1.1.0 in
-    bytes'.now ≡ put_run at 4 numbers.now bytes.now)
-runs_put_u32s = exactly
+module _ (laws : Laws u32) (copy : IsCopy u32) (dict : Dict) (its : Clone.Ghosts u32.Denot) (its_dict : Dict) where
+  endian_at_u32 : Held (EndianAt.Asked u32 laws copy U32Number.ghosts dict its its_dict) (EndianAt.Learnt u32 laws copy U32Number.ghosts dict its its_dict)
+      (λ κs a r e. let bytes = a.0 in let place = a.1.0 in r ≡ field place 4 bytes.now)
+  endian_at_u32 = record { asks_nothing = λ κs a κ m. none_lent κ m; settles = λ κs a r e h. h }
 
-runs_read_u64s : Held RunsReadU64s.Asked RunsReadU64s.Learnt
-    (λ κs a r e.
-    let bytes = a.0 in let at = a.1.0 in let numbers = a.1.1.0 in let numbers' = e.1.1.0 in
-    numbers'.now ≡ read_run at 8 bytes.now numbers.now)
-runs_read_u64s = exactly
+  endian_put_u32 : Held (EndianPut.Asked u32 laws copy U32Number.ghosts dict its its_dict) (EndianPut.Learnt u32 laws copy U32Number.ghosts dict its its_dict)
+      (λ κs a r e.
+      let bytes = a.0 in let bytes' = e.0 in let place = a.1.0 in let value = a.1.1.0 in
+      bytes'.now ≡ put_field place 4 value bytes.now)
+  endian_put_u32 = record { asks_nothing = λ κs a κ m. none_lent κ m; settles = λ κs a r e h. h }
 
-runs_put_u64s : Held RunsPutU64s.Asked RunsPutU64s.Learnt
-    (λ κs a r e.
-    let bytes = a.0 in let bytes' = e.0 in let at = a.1.0 in let numbers = a.1.1.0 in
-    bytes'.now ≡ put_run at 8 numbers.now bytes.now)
-runs_put_u64s = exactly
+  runs_read_u32s : Held (RunsRead.Asked u32 laws copy U32Number.ghosts dict its its_dict) (RunsRead.Learnt u32 laws copy U32Number.ghosts dict its its_dict)
+      (λ κs a r e.
+      let bytes = a.0 in let at = a.1.0 in let numbers = a.1.1.0 in let numbers' = e.1.1.0 in
+      numbers'.now ≡ read_run at 4 bytes.now numbers.now)
+  runs_read_u32s = record {
+    asks_nothing = λ κs a κ m. none_lent κ m;
+    settles = λ κs a r e h. read_plain a.1.0 4 a.0.now a.1.1.0.now e.1.1.0.now h;
+  }
+
+  runs_put_u32s : Held (RunsPut.Asked u32 laws copy U32Number.ghosts dict its its_dict) (RunsPut.Learnt u32 laws copy U32Number.ghosts dict its its_dict)
+      (λ κs a r e.
+      let bytes = a.0 in let bytes' = e.0 in let at = a.1.0 in let numbers = a.1.1.0 in
+      bytes'.now ≡ put_run at 4 numbers.now bytes.now)
+  runs_put_u32s = record {
+    asks_nothing = λ κs a κ m. none_lent κ m;
+    settles = λ κs a r e h. put_plain a.1.0 4 a.0.now a.1.1.0.now e.0.now h;
+  }
+
+module _ (laws : Laws u64) (copy : IsCopy u64) (dict : Dict) (its : Clone.Ghosts u64.Denot) (its_dict : Dict) where
+  endian_at_u64 : Held (EndianAt.Asked u64 laws copy U64Number.ghosts dict its its_dict) (EndianAt.Learnt u64 laws copy U64Number.ghosts dict its its_dict)
+      (λ κs a r e. let bytes = a.0 in let place = a.1.0 in r ≡ field place 8 bytes.now)
+  endian_at_u64 = record { asks_nothing = λ κs a κ m. none_lent κ m; settles = λ κs a r e h. h }
+
+  endian_put_u64 : Held (EndianPut.Asked u64 laws copy U64Number.ghosts dict its its_dict) (EndianPut.Learnt u64 laws copy U64Number.ghosts dict its its_dict)
+      (λ κs a r e.
+      let bytes = a.0 in let bytes' = e.0 in let place = a.1.0 in let value = a.1.1.0 in
+      bytes'.now ≡ put_field place 8 value bytes.now)
+  endian_put_u64 = record { asks_nothing = λ κs a κ m. none_lent κ m; settles = λ κs a r e h. h }
+
+  runs_read_u64s : Held (RunsRead.Asked u64 laws copy U64Number.ghosts dict its its_dict) (RunsRead.Learnt u64 laws copy U64Number.ghosts dict its its_dict)
+      (λ κs a r e.
+      let bytes = a.0 in let at = a.1.0 in let numbers = a.1.1.0 in let numbers' = e.1.1.0 in
+      numbers'.now ≡ read_run at 8 bytes.now numbers.now)
+  runs_read_u64s = record {
+    asks_nothing = λ κs a κ m. none_lent κ m;
+    settles = λ κs a r e h. read_plain a.1.0 8 a.0.now a.1.1.0.now e.1.1.0.now h;
+  }
+
+  runs_put_u64s : Held (RunsPut.Asked u64 laws copy U64Number.ghosts dict its its_dict) (RunsPut.Learnt u64 laws copy U64Number.ghosts dict its its_dict)
+      (λ κs a r e.
+      let bytes = a.0 in let bytes' = e.0 in let at = a.1.0 in let numbers = a.1.1.0 in
+      bytes'.now ≡ put_run at 8 numbers.now bytes.now)
+  runs_put_u64s = record {
+    asks_nothing = λ κs a κ m. none_lent κ m;
+    settles = λ κs a r e h. put_plain a.1.0 8 a.0.now a.1.1.0.now e.0.now h;
+  }
 
 -- ---- `streams`, of any reader, writer or handle that borrows nothing: all that is asked of one that borrows is that its loans last
 
@@ -112,28 +183,41 @@ module _ (T : RattleType) (none : T.lives ≡ []) (laws : Laws T) (dict : Dict) 
   streams_read_file : (its : Read.Ghosts T.Denot) → Held (StreamsReadFile.Asked T laws its dict) (StreamsReadFile.Learnt T laws its dict)
       (λ κs a r e.
       let input = a.0 in let input' = e.0 in let file' = e.1.0 in
-      (IsPrefixLen r.count file'.now)
-      × ((IfSome (its.remaining input.now) (λ bytes. StartsWith bytes (take r.count file'.now)))
-      × ((IsTrue r.whole → IfSome (its.remaining input.now) (λ bytes. r.count ≡ min (length bytes) 40969))
-      × (IsTrue r.whole → IsAtEnd (its.remaining input'.now)))))
+      (IsPrefixLen (kept r) file'.now)
+      × ((IfSome (its.remaining input.now) (λ bytes. StartsWith bytes (take (kept r) file'.now)))
+      × ((IfOk r (λ count. IfSome (its.remaining input.now) (λ bytes. count ≡ min (length bytes) 40969)))
+      × (OnOk r (IsAtEnd (its.remaining input'.now))))))
   streams_read_file its = record { asks_nothing = λ κs a κ m. lasts T.lives none κ m; settles = λ κs a r e h. h }
 
   streams_write_all : (its : Write.Ghosts T.Denot) → Held (StreamsWriteAll.Asked T laws its dict) (StreamsWriteAll.Learnt T laws its dict)
       (λ κs a r e.
       let output = a.0 in let output' = e.0 in let bytes = a.1.0 in
-      (IsTrue r → Appends (its.contents output.now) (its.contents output'.now) bytes.now)
+      (OnOk r (Appends (its.contents output.now) (its.contents output'.now) bytes.now))
       × ((n : ℕ) × Appends (its.contents output.now) (its.contents output'.now) (take n bytes.now)))
   streams_write_all its = record { asks_nothing = λ κs a κ m. lasts T.lives none κ m; settles = λ κs a r e h. h }
 
   streams_print_decimal : (its : Write.Ghosts T.Denot) → Held (StreamsPrintDecimal.Asked T laws its dict) (StreamsPrintDecimal.Learnt T laws its dict)
       (λ κs a r e.
       let output = a.0 in let output' = e.0 in let n = a.1.0 in
-      IsTrue r → Appends (its.contents output.now) (its.contents output'.now) (decimal n))
+      OnOk r (Appends (its.contents output.now) (its.contents output'.now) (decimal n)))
   streams_print_decimal its = record { asks_nothing = λ κs a κ m. lasts T.lives none κ m; settles = λ κs a r e h. h }
 
   streams_arg : (its : Env.Ghosts T.Denot) → Held (StreamsArg.Asked T laws its dict) (StreamsArg.Learnt T laws its dict)
-      (λ κs a r e. let buf' = e.1.1.0 in IsPrefixLen r buf'.now)
+      (λ κs a r e. let buf' = e.1.1.0 in IfSome r (λ count. IsPrefixLen count buf'.now))
   streams_arg its = record { asks_nothing = λ κs a κ m. lasts T.lives none κ m; settles = λ κs a r e h. h }
+
+-- What `show_input` asks is that what it is handed may be called.
+module _ (R W F : RattleType) (reader : Laws R) (writer : Laws W) (shows : Laws F) (read-dict write-dict call-dict drop-dict : Dict) where
+  streams_show_input : (read : Read.Ghosts R.Denot) (write : Write.Ghosts W.Denot) (call : ShowCall.Ghosts R W F)
+      → Settled (StreamsShowInput.Learnt R W F reader writer shows read read-dict write write-dict call call-dict drop-dict)
+      (λ κs a r e.
+      let input = a.0 in let input' = e.0 in let output = a.1.0 in let output' = e.1.0 in
+      let shown = Shown ((ShowCall.words R W F call).post a.1.1.0) output.now output'.now (read.remaining input.now) in
+      (IsErrOf r Input ⊎ IsAtEnd (read.remaining input'.now))
+      × ((IsErrOf r Input → output'.now ≡ output.now)
+      × ((OnOk r (shown (Ok tt)))
+      × (IsErrOf r Output → (x : Error) × shown (Err x)))))
+  streams_show_input read write call = record { told = λ κs a r e h. h }
 
 -- ---- `script`
 
@@ -153,7 +237,7 @@ tracefile_command_at : Held TracefileCommandAt.Asked TracefileCommandAt.Learnt
     (λ κs a r e. let file = a.0 in let n = a.1.0 in let i = a.1.1.0 in command_is r ≡ command_at file.now n i)
 tracefile_command_at = exactly
 
-tracefile_refusal : Held TracefileRefusal.Asked TracefileRefusal.Learnt (λ κs a r e. let file = a.0 in r ≡ file_refusal file.now)
+tracefile_refusal : Held TracefileRefusal.Asked TracefileRefusal.Learnt (λ κs a r e. let file = a.0 in number_in r ≡ file_refusal file.now)
 tracefile_refusal = exactly
 
 -- ---- `trace`

@@ -28,10 +28,12 @@ use Rattle.lru_rule.specs.Statements.{Each}
 use Rattle.lru_rule.proofs.PlaceLaws.{order_each, order_written}
 use Rattle.lru_rule.proofs.OrderLaws.{none_missing}
 use Rattle.replacement.specs.Rule.{tree}
-use Rattle.replacement.specs.Calls.{answer_of, Result, outcome_of}
-use Rattle.replacement.specs.declared.Reply.{Reply}
-use Rattle.replacement.specs.declared.Outcome.{Outcome}
-use Rattle.replacement.proofs.ReplyLaws.{reply_injective, result_injective}
+use Rattle.std.specs.Prelude as Prelude
+use Rattle.nru.specs.declared.Choice.{Choice}
+use Rattle.replacement.specs.Calls.{Result}
+use Rattle.replacement.specs.Answer.{answer_of, outcome_of, choice_of}
+use Rattle.replacement.specs.declared.Refusal.{Refusal}
+use Rattle.replacement.proofs.ReplyLaws.{reply_injective, result_injective, choice_injective}
 use Rattle.lookup.specs.Lookup.{is_hit, hit_way, visits}
 use Rattle.lookup.proofs.LookupLaws.{visits_hit, visits_miss}
 use Rattle.geometry.specs.Inside.{Limited}
@@ -66,11 +68,14 @@ steps_told p q c e f = command_injective p q (e ∙ sym f)
 kinds_told : (p q : Asked) (k : Kind) → kind_is p ≡ k → kind_is q ≡ k → p ≡ q
 kinds_told p q k e f = kind_injective p q (e ∙ sym f)
 
-replies_told : (p q : Reply) (a : List ℕ) → answer_of p ≡ a → answer_of q ≡ a → p ≡ q
+replies_told : (p q : Prelude.Result (Unit {0}) Refusal) (a : List ℕ) → answer_of p ≡ a → answer_of q ≡ a → p ≡ q
 replies_told p q a e f = reply_injective p q (e ∙ sym f)
 
-results_told : (p q : Outcome) (r : Result) → outcome_of p ≡ r → outcome_of q ≡ r → p ≡ q
-results_told p q r e f = result_injective p q (e ∙ sym f)
+results_told : (word : ℕ) (p q : Prelude.Result ℕ Refusal) (r : Result) → outcome_of word p ≡ r → outcome_of word q ≡ r → p ≡ q
+results_told word p q r e f = result_injective word word p q (e ∙ sym f)
+
+choices_told : (word : ℕ) (p q : Prelude.Result Choice Refusal) (r : Result) → choice_of word p ≡ r → choice_of word q ≡ r → p ≡ q
+choices_told word p q r e f = choice_injective word word p q (e ∙ sym f)
 
 step_of_its_code : (d kind argument : ℕ) → d < 256
     → command_of (code_of (record { domain = d; kind = kind; argument = argument })) argument ≡ record { domain = d; kind = kind; argument = argument }

@@ -17,6 +17,7 @@ use Rattle.nru.proofs.reset.Reads as NruReset
 use Rattle.nru.proofs.touch.Reads as NruTouch
 use Rattle.nru.proofs.victim.Reads as NruVictim
 use Rattle.nru.specs.Calls as Nru
+use Rattle.replacement.proofs.Refusal.number.Reads as ReplacementNumber
 use Rattle.replacement.proofs.change_of.Reads as ReplacementChangeOf
 use Rattle.replacement.proofs.changed.Reads as ReplacementChanged
 use Rattle.replacement.proofs.conflict.Reads as ReplacementConflict
@@ -26,7 +27,9 @@ use Rattle.replacement.proofs.own.Reads as ReplacementOwn
 use Rattle.replacement.proofs.touch.Reads as ReplacementTouch
 use Rattle.replacement.proofs.victim.Reads as ReplacementVictim
 use Rattle.replacement.specs.Calls as Replacement
-use Rattle.replacement.specs.Calls.{answer_of, in_limits, outcome_of}
+use Rattle.replacement.specs.Calls.{in_limits}
+use Rattle.replacement.specs.Answer.{answer_of, outcome_of, choice_of}
+use Rattle.replacement.specs.Refusal.{number_of}
 use Rattle.replacement.specs.Change as ReplacementChange
 use Rattle.replacement.specs.Change.{change_by}
 use Rattle.tree.proofs.change.Reads as TreeChange
@@ -163,16 +166,19 @@ replacement_in_limits : Held ReplacementInLimits.Asked ReplacementInLimits.Learn
     (λ κs a r e. let ways = a.0 in let rule = a.1.0 in r ≡ in_limits ways rule)
 replacement_in_limits = exactly
 
+replacement_number : Held ReplacementNumber.Asked ReplacementNumber.Learnt (λ κs a r e. let refusal = a.0 in r ≡ number_of refusal)
+replacement_number = exactly
+
 replacement_victim : Held ReplacementVictim.Asked ReplacementVictim.Learnt
     (λ κs a r e.
     let ways = a.0 in let rule = a.1.0 in let word = a.1.1.0 in let map = a.1.1.1.0 in
-    outcome_of r ≡ Replacement.victim_of ways rule word map)
+    choice_of word r ≡ Replacement.victim_of ways rule word map)
 replacement_victim = exactly
 
 replacement_touch : Held ReplacementTouch.Asked ReplacementTouch.Learnt
     (λ κs a r e.
     let ways = a.0 in let rule = a.1.0 in let word = a.1.1.0 in let map = a.1.1.1.0 in let way = a.1.1.1.1.0 in
-    outcome_of r ≡ Replacement.touch_of ways rule word map way)
+    outcome_of word r ≡ Replacement.touch_of ways rule word map way)
 replacement_touch = exactly
 
 replacement_change_of : Held ReplacementChangeOf.Asked ReplacementChangeOf.Learnt
@@ -186,13 +192,13 @@ replacement_changed : Held ReplacementChanged.Asked ReplacementChanged.Learnt
 replacement_changed = exactly
 
 replacement_fresh : Held ReplacementFresh.Asked ReplacementFresh.Learnt
-    (λ κs a r e. let ways = a.0 in let rule = a.1.0 in outcome_of r ≡ Replacement.fresh_of ways rule)
+    (λ κs a r e. let ways = a.0 in let rule = a.1.0 in outcome_of 0 r ≡ Replacement.fresh_of ways rule)
 replacement_fresh = exactly
 
 replacement_own : Held ReplacementOwn.Asked ReplacementOwn.Learnt
     (λ κs a r e.
     let ways = a.0 in let rule = a.1.0 in let word = a.1.1.0 in let map = a.1.1.1.0 in
-    outcome_of r ≡ Replacement.own_of ways rule word map)
+    outcome_of word r ≡ Replacement.own_of ways rule word map)
 replacement_own = exactly
 
 replacement_conflict : Held ReplacementConflict.Asked ReplacementConflict.Learnt

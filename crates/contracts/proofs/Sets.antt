@@ -1,6 +1,7 @@
 -- Contracts of steps and policies, one set, and the verdict: each asks nothing, and settles
 -- what is said here for every input.
-use Prim.Native.Nat.{◌%◌, ◌^◌, ℕ}
+use Prim.Native.Nat.{◌%◌, ◌^◌, ◌<◌, ℕ}
+use Rattle.command.proofs.Refusal.number.Reads as CommandRefusalNumber
 use Rattle.command.proofs.code_of.Reads as CommandCodeOf
 use Rattle.command.proofs.command_of.Reads as CommandCommandOf
 use Rattle.command.proofs.kind_of.Reads as CommandKindOf
@@ -9,15 +10,17 @@ use Rattle.command.specs.Command.{code_of, command_is, command_of}
 use Rattle.command.specs.Kind.{kind_is, kind_of}
 use Rattle.contracts.proofs.Exactly.{exactly}
 use Rattle.contracts.specs.Contract.{Held}
+use Rattle.domains.proofs.Domain.maps.Reads as DomainMaps
 use Rattle.domains.proofs.changed.Reads as DomainsChanged
 use Rattle.domains.proofs.is_full.Reads as DomainsIsFull
 use Rattle.domains.proofs.overflows.Reads as DomainsOverflows
 use Rattle.domains.proofs.policies_of.Reads as DomainsPoliciesOf
 use Rattle.domains.proofs.used.Reads as DomainsUsed
 use Rattle.domains.specs.Calls.{changed_of, policies_of, read_by, used_of}
-use Rattle.domains.specs.Domains.{is_full, overflows}
+use Rattle.domains.specs.Domains.{is_full, maps_of, overflows}
 use Rattle.geometry.proofs.named.Reads as GeometryNamed
 use Rattle.geometry.proofs.place_of.Reads as GeometryPlaceOf
+use Rattle.command.specs.Refusal.{number_in, number_of}
 use Rattle.geometry.proofs.sizes.Reads as GeometrySizes
 use Rattle.geometry.proofs.within.Reads as GeometryWithin
 use Rattle.geometry.specs.Address.{place_of}
@@ -36,7 +39,17 @@ use Rattle.row.proofs.use_line.Reads as RowUseLine
 use Rattle.row.specs.Calls.{access_of, flush_of, lookup_of, effect_of, row_of, told, use_of, visited_of}
 use Rattle.selectors.proofs.meant.Reads as SelectorsMeant
 use Rattle.selectors.proofs.record_after.Reads as SelectorsRecordAfter
-use Rattle.selectors.specs.Calls.{meaning_is}
+use Rattle.selectors.proofs.MeantLaws.{record_told}
+use Rattle.selectors.specs.Calls.{meaning_is, record_left}
+use Rattle.selectors.specs.declared.Core.{Core}
+use Rattle.selectors.specs.declared.Meaning.{Meaning}
+use Rattle.command.specs.declared.Refusal.{Refusal}
+use Rattle.std.specs.Prelude.{Result}
+use Rattle.std.specs.declared.clone.Clone as Clone
+use denote.Param.Laws.{Laws, IsCopy}
+use denote.RattleType.{RattleType}
+use mathlib.Core.List.{List, [], Mem, not-mem-nil}
+use mir.Syntax.{Dict}
 use Rattle.selectors.specs.Selectors.{meant_by, record_by}
 use Rattle.sweep.proofs.added.Reads as SweepAdded
 use Rattle.sweep.proofs.drop_ways.Reads as SweepDropWays
@@ -54,8 +67,10 @@ use Rattle.verdict.proofs.policy_refusal.Reads as VerdictPolicyRefusal
 use Rattle.verdict.specs.Calls.{policy_refusal_of}
 use Rattle.verdict.specs.Refusal.{held_elsewhere, use_refusal}
 use Rattle.waymap.specs.Bits.{bit, count, word}
+use Rattle.std.specs.Option.{IfSome, unwrap_or}
+use lib.ListN.{length}
 use mathlib.Core.Bool.{◌&&◌}
-use mathlib.Core.Path.{◌≡◌}
+use mathlib.Core.Path.{◌≡◌, subst}
 
 -- ---- `command`
 
@@ -68,6 +83,9 @@ command_command_of = exactly
 
 command_kind_of : Held CommandKindOf.Asked CommandKindOf.Learnt (λ κs a r e. let kind = a.0 in kind_is r ≡ kind_of kind)
 command_kind_of = exactly
+
+command_refusal_number : Held CommandRefusalNumber.Asked CommandRefusalNumber.Learnt (λ κs a r e. let refusal = a.0 in r ≡ number_of refusal)
+command_refusal_number = exactly
 
 -- ---- `policy`
 
@@ -86,8 +104,8 @@ policy_bad_argument = exactly
 lookup_find : Held LookupFind.Asked LookupFind.Learnt
     (λ κs a r e.
     let tags = a.0 in let valid = a.1.0 in let hit = a.1.1.0 in let tag = a.1.1.1.0 in
-    (r.way ≡ hit_way tags.now valid hit tag) × (r.visited
-    ≡ visited tags.now valid hit tag))
+    (unwrap_or r.way (length tags.now) ≡ hit_way tags.now valid hit tag)
+    × (IfSome r.way (λ way. way < length tags.now) × (r.visited ≡ visited tags.now valid hit tag)))
 lookup_find = exactly
 
 -- ---- `row`
@@ -123,6 +141,9 @@ row_use_line = exactly
 
 domains_policies_of : Held DomainsPoliciesOf.Asked DomainsPoliciesOf.Learnt (λ κs a r e. let domains = a.0 in r ≡ policies_of domains)
 domains_policies_of = exactly
+
+domain_maps : Held DomainMaps.Asked DomainMaps.Learnt (λ κs a r e. let self = a.0 in r ≡ maps_of self)
+domain_maps = exactly
 
 domains_is_full : Held DomainsIsFull.Asked DomainsIsFull.Learnt (λ κs a r e. let c = a.0 in r ≡ is_full c)
 domains_is_full = exactly
@@ -178,7 +199,7 @@ geometry_within = exactly
 geometry_sizes : Held GeometrySizes.Asked GeometrySizes.Learnt
     (λ κs a r e.
     let g = a.0 in let tags = a.1.0 in let valid = a.1.1.0 in let dirty = a.1.1.1.0 in let words = a.1.1.1.1.0 in
-    r ≡ sizes_of g (record { tags = tags; valid = valid; dirty = dirty; words = words }))
+    number_in r ≡ sizes_of g (record { tags = tags; valid = valid; dirty = dirty; words = words }))
 geometry_sizes = exactly
 
 geometry_place_of : Held GeometryPlaceOf.Asked GeometryPlaceOf.Learnt (λ κs a r e. let g = a.0 in let address = a.1.0 in r ≡ place_of g address)
@@ -190,11 +211,11 @@ verdict_policy_refusal : Held VerdictPolicyRefusal.Asked VerdictPolicyRefusal.Le
     (λ κs a r e.
     let g = a.0 in let policies = a.1.0 in let counts = a.1.1.0 in let drops = a.1.1.1.0 in let domain = a.1.1.1.1.0 in
     let argument = a.1.1.1.1.1.0 in
-    r ≡ policy_refusal_of g policies counts drops domain argument)
+    number_in r ≡ policy_refusal_of g policies counts drops domain argument)
 verdict_policy_refusal = exactly
 
 verdict_line_refusal : Held VerdictLineRefusal.Asked VerdictLineRefusal.Learnt
-    (λ κs a r e. let ways = a.0 in let stored = a.1.0 in let counts = a.1.1.0 in r ≡ use_refusal (as_read ways stored) counts)
+    (λ κs a r e. let ways = a.0 in let stored = a.1.0 in let counts = a.1.1.0 in number_in r ≡ use_refusal (as_read ways stored) counts)
 verdict_line_refusal = exactly
 
 verdict_held_elsewhere : Held VerdictHeldElsewhere.Asked VerdictHeldElsewhere.Learnt
@@ -209,6 +230,14 @@ selectors_meant : Held SelectorsMeant.Asked SelectorsMeant.Learnt
     meaning_is r ≡ meant_by listed core (record { domain = named; kind = kind; argument = argument }))
 selectors_meant = exactly
 
-selectors_record_after : Held SelectorsRecordAfter.Asked SelectorsRecordAfter.Learnt
-    (λ κs a r e. let core = a.0 in let meaning = a.1.0 in r ≡ record_by (meaning_is meaning) core)
-selectors_record_after = exactly
+-- of any type of refusals that borrows nothing, and of document 01's
+lasts : {P : Type 0} (loans : List ℕ) → loans ≡ [] → (κ : ℕ) → Mem κ loans → P
+lasts loans none κ m = absurd (not-mem-nil (subst (Mem κ) none m))
+
+module _ (E : RattleType) (none : E.lives ≡ []) (laws : Laws E) (copy : IsCopy E) (its : Clone.Ghosts E.Denot) (dict : Dict) where
+  selectors_record_after : Held (SelectorsRecordAfter.Asked E laws copy its dict) (SelectorsRecordAfter.Learnt E laws copy its dict)
+      (λ κs a r e. let core = a.0 in let meaning = a.1.0 in r ≡ record_left meaning core)
+  selectors_record_after = record { asks_nothing = λ κs a κ m. lasts E.lives none κ m; settles = λ κs a r e h. h }
+
+records_told : (m : Result Meaning Refusal) (core : Core) → record_left m core ≡ record_by (meaning_is m) core
+records_told = record_told

@@ -19,6 +19,8 @@ use Rattle.selectors.specs.Selectors.{names_core, coreless, fresh_cores, Meant}
 use Rattle.selectors.specs.Calls.{meaning_is}
 use Rattle.selectors.specs.declared.Core.{Core}
 use Rattle.selectors.specs.declared.Meaning.{Meaning}
+use Rattle.command.specs.declared.Refusal.{Refusal}
+use Rattle.std.specs.Prelude.{Result as Calling}
 use Rattle.selectors.proofs.MeantLaws.{meaning_injective}
 use Rattle.verdict.specs.Refusal.{shares_way}
 use Rattle.purge.specs.Purge.{purge, core_purge}
@@ -64,7 +66,7 @@ core_steps_settled p q t u x y r e f = result_injective p q t u x y (e ∙ sym f
 turns_settled : (p q : Turned) (t u : Tables) (r : Turn) → turn_is p t ≡ r → turn_is q u ≡ r → (p ≡ q) × (t ≡ u)
 turns_settled p q t u r e f = turn_injective p q t u (e ∙ sym f)
 
-meanings_told : (p q : Meaning) (m : Meant) → meaning_is p ≡ m → meaning_is q ≡ m → p ≡ q
+meanings_told : (p q : Calling Meaning Refusal) (m : Meant) → meaning_is p ≡ m → meaning_is q ≡ m → p ≡ q
 meanings_told p q m e f = meaning_injective p q (e ∙ sym f)
 
 -- ---- steps and runs

@@ -12,6 +12,7 @@ use Rattle.contracts.specs.Contract.{Held}
 use Rattle.cores.proofs.turn.Reads as CoresTurn
 use Rattle.cores.specs.Calls.{turn_is, turn_of}
 use Rattle.fresh.proofs.fresh_domains.Reads as FreshDomains
+use Rattle.command.specs.Refusal.{number_in}
 use Rattle.fresh.proofs.fresh_tables.Reads as FreshTables
 use Rattle.fresh.specs.Calls as Fresh
 use Rattle.fresh.specs.Calls.{fresh_of}
@@ -41,7 +42,7 @@ fresh_tables_lem : Held FreshTables.Asked FreshTables.Learnt
     (λ κs a r e.
     let g = a.0 in let tags = a.1.0 in let tags' = e.1.0 in let valid = a.1.1.0 in let valid' = e.1.1.0 in
     let dirty = a.1.1.1.0 in let dirty' = e.1.1.1.0 in let words = a.1.1.1.1.0 in let words' = e.1.1.1.1.0 in
-    Fresh.made_of r (tables_of tags'.now valid'.now dirty'.now words'.now)
+    Fresh.made_of (number_in r) (tables_of tags'.now valid'.now dirty'.now words'.now)
     ≡ fresh_of g (tables_of tags.now valid.now dirty.now words.now))
 fresh_tables_lem = exactly
 

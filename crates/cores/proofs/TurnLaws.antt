@@ -3,9 +3,13 @@ use mathlib.Core.Path.{◌≡◌, refl, sym, ap, ◌∙◌}
 use mathlib.Core.Bool.{Bool, true, false, cond, true≢false}
 use Prim.Native.Nat.{ℕ}
 use lib.Dec.{eqb, ltb}
-use borrow.Author.Tests.{ne_eqb, eqb-false}
+use borrow.Author.Tests.{eq-eqb, ne_eqb, eqb-false}
 use Rattle.waymap.proofs.Booleans.{cases}
 use Rattle.command.specs.Command.{Command}
+use Rattle.std.specs.Prelude.{Result, Ok, Err}
+use Rattle.command.specs.Refusal.{number_in}
+use Rattle.command.proofs.RefusalLaws.{number_some}
+use Rattle.command.specs.declared.Refusal.{Refusal}
 use Rattle.command.specs.Answer.{answer_of}
 use Rattle.command.specs.declared.Answer.TheVariants.{Refused}
 use Rattle.geometry.specs.Geometry.{sizes_of}
@@ -14,7 +18,7 @@ use Rattle.verdict.proofs.RefusalLaws.{by_sizes}
 use Rattle.domains.specs.Domains.{domain_of, policies}
 use Rattle.selectors.specs.Selectors.{max_cores, Meant, plain, select, refused, meant_by, record_by}
 use Rattle.selectors.specs.Calls.{meaning_is}
-use Rattle.selectors.specs.declared.Meaning as Meaning
+use Rattle.selectors.specs.declared.Meaning.TheVariants.{Plain, Select}
 use Rattle.selectors.specs.declared.Meaning.{Meaning}
 use Rattle.selectors.specs.declared.Core.{Core}
 use Rattle.steps.specs.Tables.{lengths}
@@ -22,8 +26,7 @@ use Rattle.steps.specs.Step.{State, Outcome, answers, drops_of, decided, step}
 use Rattle.steps.specs.Run.{step_on}
 use Rattle.cores.specs.Step.{answer_by, cache_by, lent_refusal}
 use Rattle.cores.specs.Calls.{Turn, turn_of, turn_is}
-use Rattle.cores.specs.Inside.{unmoved as turned_down}
-use Rattle.cores.specs.declared.Reply.TheVariants.{Select}
+use Rattle.cores.specs.Inside.{settled}
 use Rattle.cores.specs.declared.Turned.{Turned}
 
 -- A step on a geometry outside the limits, or on tables of other lengths, is turned down by 1 or 2, whatever it asks for.
@@ -44,10 +47,10 @@ is_refused (plain c) = false
 is_refused (select core) = false
 is_refused (refused n) = true
 
-number_in : Meant → ℕ
-number_in (plain c) = 0
-number_in (select core) = 0
-number_in (refused n) = n
+number_told : Meant → ℕ
+number_told (plain c) = 0
+number_told (select core) = 0
+number_told (refused n) = n
 
 module _ (g : Geometry) (c : Command) (count : ℕ) (core : Core) (s : State) where
   abbrev sizes : ℕ
@@ -83,7 +86,7 @@ module _ (g : Geometry) (c : Command) (count : ℕ) (core : Core) (s : State) wh
   abbrev asked : Meant
   asked = meant_by (ltb c.domain count) core c
 
-  module _ (r : Meaning) (means : meaning_is r ≡ cond (ltb max_cores count) (refused 11) asked) where
+  module _ (r : Result Meaning Refusal) (means : meaning_is r ≡ cond (ltb max_cores count) (refused 11) asked) where
     -- what is not refused: there are no more than 32
     few : is_refused (meaning_is r) ≡ false → ltb max_cores count ≡ false
     unfolding is_refused
@@ -94,28 +97,27 @@ module _ (g : Geometry) (c : Command) (count : ℕ) (core : Core) (s : State) wh
     asked_is : ltb max_cores count ≡ false → meaning_is r ≡ asked
     asked_is t = rw t at means
 
-    pub refuses : {n m k : ℕ} → r ≡ Meaning.Refused n → m ≡ sizes → k ≡ cond (eqb m 0) n m → unmoved k ≡ turn_of g c count core s
-    unfolding turn_of answer_by cache_by record_by number_in
-    refuses {n} {m} {k} known is e =
-        cases (eqb sizes 0)
-        (λ z. let told : k ≡ n = e ∙ rw (is, z) in
-        rw told (cases (ltb max_cores count)
-        (λ t. let eleven = rw (t, known) at means in rw (lent_many t, z) (ap unmoved (ap number_in eleven)))
-        (λ t. rw (lent_few t, z, ← (asked_is t), known))))
-        (λ z. let told : k ≡ sizes = e ∙ rw (is, z) in ap unmoved told ∙ unsized (eqb-false sizes 0 z))
+    pub refuses : {A : Type 0} {q : Refusal} {t : Turned} (sized : Result A Refusal) → r ≡ Err q → number_in sized ≡ sizes
+        → t ≡ settled sized (Err q) s.domains core → turn_is t s.tables ≡ turn_of g c count core s
+    unfolding turn_of answer_by cache_by record_by number_told
+    refuses {q = q} (Ok x) known is e =
+        let z : eqb sizes 0 ≡ true = eq-eqb sizes 0 (sym is) in
+        rw e (cases (ltb max_cores count)
+        (λ t. let eleven = rw (t, known) at means in rw (lent_many t, z) (ap unmoved (ap number_told eleven)))
+        (λ t. rw (lent_few t, z, ← (asked_is t), known)))
+    refuses (Err p) known is e = rw (e, is) (unsized (λ n. number_some p (is ∙ n)))
 
-    pub selects : {k : Core} {m : ℕ} {t : Turned} → r ≡ Meaning.Select k → m ≡ sizes
-        → t ≡ cond (eqb m 0) (record { stepped = record { reply = Select k; domains = s.domains }; core = k }) (turned_down m s.domains core)
-        → turn_is t s.tables ≡ turn_of g c count core s
+    pub selects : {A : Type 0} {k : Core} {t : Turned} (sized : Result A Refusal) → r ≡ Ok (Select k) → number_in sized ≡ sizes
+        → t ≡ settled sized (Ok k) s.domains core → turn_is t s.tables ≡ turn_of g c count core s
     unfolding turn_of answer_by cache_by record_by is_refused
-    selects {k} {m} known is e =
+    selects (Ok x) known is e =
         let low = few (rw known) in
-        cases (eqb sizes 0)
-        (λ z. rw (e, is, lent_few low, z, ← (asked_is low), known))
-        (λ z. rw (e, is, z) (unsized (eqb-false sizes 0 z)))
+        let z : eqb sizes 0 ≡ true = eq-eqb sizes 0 (sym is) in
+        rw (e, lent_few low, z, ← (asked_is low), known)
+    selects (Err p) known is e = rw (e, is) (unsized (λ n. number_some p (is ∙ n)))
 
     -- a step of the cache, which itself tells 1 and 2
-    pub steps : {d k a : ℕ} {x : Outcome} → r ≡ Meaning.Plain d k a → x ≡ step_on g (record { domain = d; kind = k; argument = a }) s
+    pub steps : {d k a : ℕ} {x : Outcome} → r ≡ Ok (Plain d k a) → x ≡ step_on g (record { domain = d; kind = k; argument = a }) s
         → same x ≡ turn_of g c count core s
     unfolding turn_of answer_by cache_by record_by is_refused
     steps {d} {k} {a} {x} known e =

@@ -1,16 +1,16 @@
 // Steps where core records are lent beside the tables.
 #![tactic(auto)]
 
-ghost use Rattle.std.specs.Prelude.{◌≡◌, cond, eqb, ltb};
+ghost use Rattle.std.specs.Prelude.{◌≡◌, cond, ltb};
 ghost use Rattle.selectors.specs.Selectors.{max_cores, refused as refused_by, meant_by};
 ghost use Rattle.selectors.specs.Calls.{meaning_is};
 ghost use Rattle.steps.specs.Step.{tables_of};
 ghost use Rattle.cores.specs.Step.{core_step};
 ghost use Rattle.cores.specs.Calls.{lent_of, result_of, turn_of, turn_is};
-ghost use Rattle.cores.specs.Inside.{unmoved};
-ghost use Rattle.cores.specs.declared.Reply.TheVariants.{Cache, Select};
+ghost use Rattle.cores.specs.Inside.{settled};
+ghost use Rattle.cores.specs.declared.Reply.TheVariants.{Cache};
 
-use command::Answer;
+use command::{Answer, Refusal};
 use domains::Domains;
 use geometry::Geometry;
 use selectors::{Core, MAX_CORES, Meaning};
@@ -36,29 +36,6 @@ pub struct Turned {
     pub core: Core,
 }
 
-// The first of two refusals: that of geometry and lengths, if there is one.
-fn first(sizes: usize, number: usize) -> usize
-    ensures { result ≡ cond (eqb sizes 0) number sizes }
-{
-    if sizes == 0 {
-        return number;
-    }
-    sizes
-}
-
-// A step turned down: nothing moves.
-fn refused(number: usize, domains: Domains, core: Core) -> Turned
-    ensures { result ≡ unmoved number domains core }
-{
-    Turned {
-        stepped: Stepped {
-            reply: Reply::Cache(Answer::Refused(number)),
-            domains,
-        },
-        core,
-    }
-}
-
 // What a step of the cache leaves, beside the core's record.
 fn taken(done: cache::Stepped, core: Core) -> Turned
     ensures { result ≡ record { stepped = record { reply = Cache done.answer; domains = done.domains }; core = core } }
@@ -74,29 +51,46 @@ fn taken(done: cache::Stepped, core: Core) -> Turned
     }
 }
 
-// A write of selectors, unless geometry or lengths turn it down.
-fn written(sizes: usize, domains: Domains, core: Core, next: Core) -> Turned
-    ensures { result ≡ cond (eqb sizes 0) (record { stepped = record { reply = Select next; domains = domains }; core = next }) (unmoved sizes domains core) }
+// A step that does not reach the cache: the core's new selectors, or why it is turned down. Geometry and lengths come first.
+fn settled(
+    sizes: Result<(), Refusal>,
+    written: Result<Core, Refusal>,
+    domains: Domains,
+    core: Core,
+) -> Turned
+    ensures { result ≡ settled sizes written domains core }
 {
-    if sizes != 0 {
-        return refused(sizes, domains, core);
-    }
-    Turned {
-        stepped: Stepped {
-            reply: Reply::Select(next),
-            domains,
+    match sizes.and(written) {
+        Ok(next) => Turned {
+            stepped: Stepped {
+                reply: Reply::Select(next),
+                domains,
+            },
+            core: next,
         },
-        core: next,
+        Err(refusal) => Turned {
+            stepped: Stepped {
+                reply: Reply::Cache(Answer::Refused(refusal.number())),
+                domains,
+            },
+            core,
+        },
     }
 }
 
 // What a step means, given how many records are lent and the record of the core that it names. More than 32 are refused, whatever it asks for.
-fn meaning_of(count: usize, core: Core, named: usize, kind: u8, argument: u64) -> Meaning
+fn meaning_of(
+    count: usize,
+    core: Core,
+    named: usize,
+    kind: u8,
+    argument: u64,
+) -> Result<Meaning, Refusal>
     ensures { meaning_is result
         ≡ cond (ltb max_cores count) (refused_by 11) (meant_by (ltb named count) core (record { domain = named; kind = kind; argument = argument })) }
 {
     if MAX_CORES < count {
-        return Meaning::Refused(11);
+        return Err(Refusal::Core);
     }
     selectors::meant(named < count, core, named, kind, argument)
 }
@@ -120,25 +114,26 @@ pub fn turn(
         ≡ turn_of g (record { domain = named; kind = kind; argument = argument }) count core
         (record { tables = tables_of tags.old valid.old dirty.old words.old; domains = domains }) }
 {
-    let meaning = meaning_of(count, core, named, kind, argument);
-    match meaning {
-        Meaning::Plain {
-            domain,
-            kind,
-            argument,
-        } => {
+    match meaning_of(count, core, named, kind, argument) {
+        Ok(
+            Meaning::Plain {
+                domain,
+                kind,
+                argument,
+            },
+        ) => {
             let done = cache::step(
                 g, tags, valid, dirty, words, domains, domain, kind, argument,
             );
             taken(done, core)
         }
-        Meaning::Select(next) => {
+        Ok(Meaning::Select(next)) => {
             let sizes = geometry::sizes(g, tags.len(), valid.len(), dirty.len(), words.len());
-            written(sizes, domains, core, next)
+            settled(sizes, Ok(next), domains, core)
         }
-        Meaning::Refused(number) => {
+        Err(refusal) => {
             let sizes = geometry::sizes(g, tags.len(), valid.len(), dirty.len(), words.len());
-            refused(first(sizes, number), domains, core)
+            settled(sizes, Err(refusal), domains, core)
         }
     }
 }
@@ -161,15 +156,12 @@ pub fn step(
         (lent_of (tables_of tags.old valid.old dirty.old words.old) domains cores.old) }
 {
     let count = cores.len();
-    let mut core = Core {
-        cs: 0,
-        ds: 0,
-        es: 0,
-    };
     let inside = named < count;
-    if inside {
-        core = cores[named];
-    }
+    let core = if inside {
+        cores[named]
+    } else {
+        Core::default()
+    };
     let turned = turn(
         g, tags, valid, dirty, words, domains, count, core, named, kind, argument,
     );

@@ -4,6 +4,7 @@
 ghost use Rattle.std.specs.Prelude.{◌≡◌, false, cond, ◌+◌, ◌<◌, eqb};
 ghost use Rattle.waymap.specs.Bits.{digit};
 ghost use Rattle.domains.specs.Domains.{
+  maps_of,
   no_counts,
   is_full,
   overflows as overflows_by,
@@ -15,10 +16,10 @@ ghost use Rattle.domains.specs.Calls.{policies_of, used_of, changed_of};
 use command::Answer;
 use policy::Maps;
 
-const LARGEST: u32 = 4_294_967_295;
+const LARGEST: u32 = u32::MAX;
 
 // A domain's counts.
-#[derive(Clone, Copy)]
+#[derive(Clone, Copy, Default)]
 pub struct Counts {
     pub hits: u32,
     pub misses: u32,
@@ -33,11 +34,23 @@ pub struct Counts {
 }
 
 // A domain's hit map, fill map and counts.
-#[derive(Clone, Copy)]
+#[derive(Clone, Copy, Default)]
 pub struct Domain {
     pub hit: u16,
     pub fill: u16,
     pub counts: Counts,
+}
+
+impl Domain {
+    // Its maps, as stored.
+    pub fn maps(self) -> Maps
+        ensures { result ≡ maps_of self }
+    {
+        Maps {
+            hit: self.hit,
+            fill: self.fill,
+        }
+    }
 }
 
 // The sixteen domains.
@@ -56,15 +69,9 @@ pub struct Policies {
 pub fn policies_of(domains: Domains) -> Policies
     ensures { result ≡ policies_of domains }
 {
-    let mut maps = [Maps { hit: 0, fill: 0 }; 16];
-    let mut d = 0;
-    while d < 16 {
-        let x = domains.records[d];
-        maps[d] = Maps {
-            hit: x.hit,
-            fill: x.fill,
-        };
-        d += 1;
+    let mut maps = [Maps::default(); 16];
+    for d in 0..16 {
+        maps[d] = domains.records[d].maps();
     }
     Policies { maps }
 }
@@ -73,25 +80,13 @@ pub fn policies_of(domains: Domains) -> Policies
 pub fn is_full(c: Counts) -> bool
     ensures { result ≡ is_full c }
 {
-    if c.hits == LARGEST {
-        return true;
-    }
-    if c.misses == LARGEST {
-        return true;
-    }
-    if c.evicted == LARGEST {
-        return true;
-    }
-    if c.written == LARGEST {
-        return true;
-    }
-    if c.flushed == LARGEST {
-        return true;
-    }
-    if c.fills == LARGEST {
-        return true;
-    }
-    c.dropped == LARGEST
+    c.hits == LARGEST
+        || c.misses == LARGEST
+        || c.evicted == LARGEST
+        || c.written == LARGEST
+        || c.flushed == LARGEST
+        || c.fills == LARGEST
+        || c.dropped == LARGEST
 }
 
 // Whether an argument removes the domain.
@@ -105,11 +100,8 @@ fn removes(argument: u64) -> bool
 pub fn overflows(argument: u64, dropped: usize, c: Counts) -> bool
     ensures { result ≡ overflows_by argument dropped c }
 {
-    if removes(argument) {
-        return false;
-    }
     let room = LARGEST - c.dropped;
-    (room as usize) < dropped
+    !removes(argument) && (room as usize) < dropped
 }
 
 // One more where the line is dirty.
@@ -117,10 +109,7 @@ fn with_dirty(written: u32, dirty: bool) -> u32
     requires { written < 4294967295 }
     ensures { result ≡ written + digit dirty }
 {
-    if dirty {
-        return written + 1;
-    }
-    written
+    if dirty { written + 1 } else { written }
 }
 
 // The counts after an answer.
@@ -128,39 +117,33 @@ fn counted(answer: Answer, c: Counts) -> Counts
     requires { is_full c ≡ false }
     ensures { result ≡ counted_by answer c }
 {
-    let mut next = c;
     match answer {
-        Answer::Hit(_way) => {
-            next.hits = c.hits + 1;
-            next
-        }
-        Answer::Fill(_way) => {
-            next.misses = c.misses + 1;
-            next.fills = c.fills + 1;
-            next
-        }
-        Answer::Pass => {
-            next.misses = c.misses + 1;
-            next
-        }
-        Answer::Evict {
-            way: _,
-            tag: _,
-            dirty,
-        } => {
-            next.misses = c.misses + 1;
-            next.evicted = c.evicted + 1;
-            next.written = with_dirty(c.written, dirty);
-            let fills = c.fills + 1;
-            next.fills = fills;
-            next
-        }
-        Answer::Flush { way: _, dirty } => {
-            next.written = with_dirty(c.written, dirty);
-            next.flushed = c.flushed + 1;
-            next
-        }
-        _ => next,
+        Answer::Hit(_) => Counts {
+            hits: c.hits + 1,
+            ..c
+        },
+        Answer::Fill(_) => Counts {
+            misses: c.misses + 1,
+            fills: c.fills + 1,
+            ..c
+        },
+        Answer::Pass => Counts {
+            misses: c.misses + 1,
+            ..c
+        },
+        Answer::Evict { dirty, .. } => Counts {
+            misses: c.misses + 1,
+            evicted: c.evicted + 1,
+            written: with_dirty(c.written, dirty),
+            fills: c.fills + 1, // In the place of the evicted line.
+            ..c
+        },
+        Answer::Flush { dirty, .. } => Counts {
+            written: with_dirty(c.written, dirty),
+            flushed: c.flushed + 1,
+            ..c
+        },
+        _ => c,
     }
 }
 
@@ -170,19 +153,12 @@ fn kept(c: Counts, argument: u64, dropped: usize) -> Counts
     ensures { result ≡ cond (eqb argument 0) no_counts (with_drops dropped c) }
 {
     if removes(argument) {
-        return Counts {
-            hits: 0,
-            misses: 0,
-            evicted: 0,
-            written: 0,
-            flushed: 0,
-            fills: 0,
-            dropped: 0,
-        };
+        return Counts::default();
     }
-    let mut next = c;
-    next.dropped = c.dropped + dropped as u32;
-    next
+    Counts {
+        dropped: c.dropped + dropped as u32,
+        ..c
+    }
 }
 
 // A domain's record after an access or a flush.
@@ -193,9 +169,8 @@ pub fn used(own: Domain, answer: Answer) -> Domain
         return own;
     }
     Domain {
-        hit: own.hit,
-        fill: own.fill,
         counts: counted(answer, own.counts),
+        ..own
     }
 }
 

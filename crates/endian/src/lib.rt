@@ -1,102 +1,39 @@
 // Little-endian numbers in lent bytes of any number and content.
 #![tactic(auto)]
 
-mod rest;
-mod whole;
+mod numbers;
 
-ghost use Rattle.std.specs.Prelude.{◌≡◌};
+ghost use Rattle.std.specs.Prelude.{◌≡◌, ◌≤◌, length};
 ghost use Rattle.endian.specs.Bytes.{field, put_field};
 
-// The number of one byte at a place; 0 behind the end.
-pub fn u8_at(bytes: &[u8], at: usize) -> u8
-    ensures { result ≡ field at 1 bytes.now }
-{
-    if at < bytes.len() {
-        return bytes[at];
-    }
-    0
-}
+pub use numbers::Number;
 
-// The number of two bytes at a place; bytes behind the end are 0.
-pub fn u16_at(bytes: &[u8], at: usize) -> u16
-    ensures { result ≡ field at 2 bytes.now }
+// The number at a place; bytes behind the end are 0.
+pub fn at<N: Number>(bytes: &[u8], place: usize) -> N
+    ensures { N.number result ≡ field place N.WIDTH bytes.now }
 {
-    let all = bytes.len();
-    if all <= at {
-        return 0;
-    }
-    let left = all - at;
-    if 2 <= left {
-        return whole::two(bytes, at);
-    }
-    rest::value(bytes, at, left) as u16
-}
-
-// Of four bytes.
-pub fn u32_at(bytes: &[u8], at: usize) -> u32
-    ensures { result ≡ field at 4 bytes.now }
-{
-    let all = bytes.len();
-    if all <= at {
-        return 0;
-    }
-    let left = all - at;
-    if 4 <= left {
-        return whole::four(bytes, at);
-    }
-    rest::value(bytes, at, left) as u32
-}
-
-// Of eight bytes.
-pub fn u64_at(bytes: &[u8], at: usize) -> u64
-    ensures { result ≡ field at 8 bytes.now }
-{
-    let all = bytes.len();
-    if all <= at {
-        return 0;
-    }
-    let left = all - at;
-    if 8 <= left {
-        return whole::eight(bytes, at);
-    }
-    rest::value(bytes, at, left)
-}
-
-// A number of two bytes put at a place; one that would reach past the end is not written.
-pub fn put_u16(bytes: &mut [u8], at: usize, value: u16)
-    ensures { bytes.new ≡ put_field at 2 value bytes.old }
-{
-    let all = bytes.len();
-    if all <= at {
-        return;
-    }
-    if 2 <= all - at {
-        whole::put_two(bytes, at, value);
+    match bytes.get(place..) {
+        Some(rest) if N::WIDTH <= rest.len() => N::read(rest),
+        Some(rest) => padded(rest),
+        None => padded(&[]),
     }
 }
 
-// Of four bytes.
-pub fn put_u32(bytes: &mut [u8], at: usize, value: u32)
-    ensures { bytes.new ≡ put_field at 4 value bytes.old }
+// Of fewer bytes than a number has.
+fn padded<N: Number>(bytes: &[u8]) -> N
+    requires { length bytes.now ≤ N.WIDTH }
+    ensures { N.number result ≡ field 0 N.WIDTH bytes.now }
 {
-    let all = bytes.len();
-    if all <= at {
-        return;
-    }
-    if 4 <= all - at {
-        whole::put_four(bytes, at, value);
-    }
+    let mut whole = [0; 8];
+    whole[..bytes.len()].copy_from_slice(bytes);
+    N::read(&whole)
 }
 
-// Of eight bytes.
-pub fn put_u64(bytes: &mut [u8], at: usize, value: u64)
-    ensures { bytes.new ≡ put_field at 8 value bytes.old }
+// A number put at a place; one that would reach past the end is not written.
+pub fn put<N: Number>(bytes: &mut [u8], place: usize, value: N)
+    ensures { bytes.new ≡ put_field place N.WIDTH (N.number value) bytes.old }
 {
-    let all = bytes.len();
-    if all <= at {
-        return;
-    }
-    if 8 <= all - at {
-        whole::put_eight(bytes, at, value);
+    if place <= bytes.len() && N::WIDTH <= bytes.len() - place {
+        value.write(&mut bytes[place..]);
     }
 }

@@ -1,3 +1,3 @@
 -- The laws that the crates above cite.
-pub mod FillLaws
+pub mod TableLaws
 pub mod WorkedCases

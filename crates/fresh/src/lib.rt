@@ -1,57 +1,41 @@
 // A fresh cache.
 #![tactic(auto)]
 
-mod fill;
-
 ghost use Rattle.std.specs.Prelude.{◌≡◌};
+ghost use Rattle.command.specs.Refusal.{number_in};
 ghost use Rattle.steps.specs.Step.{tables_of};
 ghost use Rattle.steps.specs.Fresh.{fresh_domains};
 ghost use Rattle.fresh.specs.Calls.{made_of, fresh_of};
 
-use domains::{Counts, Domain, Domains};
+use command::Refusal;
+use domains::{Domain, Domains};
 use geometry::Geometry;
 
-// The tables become those of a fresh cache. The answer is 0, or 1 or 2 as for a step, and then nothing changes.
+// The tables become those of a fresh cache, unless geometry or lengths are turned down, by number 1 or 2 as for a step: then nothing changes.
 pub fn fresh_tables(
     g: Geometry,
     tags: &mut [u64],
     valid: &mut [u16],
     dirty: &mut [u16],
     words: &mut [u64],
-) -> usize
-    ensures { made_of result (tables_of tags.new valid.new dirty.new words.new)
+) -> Result<(), Refusal>
+    ensures { made_of (number_in result) (tables_of tags.new valid.new dirty.new words.new)
         ≡ fresh_of g (tables_of tags.old valid.old dirty.old words.old) }
 {
-    let number = geometry::sizes(g, tags.len(), valid.len(), dirty.len(), words.len());
-    if number != 0 {
-        return number;
-    }
-    let made = replacement::fresh(g.ways, g.rule);
-    fill::fill_words(tags, 0);
-    fill::clear_maps(valid);
-    fill::clear_maps(dirty);
-    fill::fill_words(words, made.word);
-    0
+    geometry::sizes(g, tags.len(), valid.len(), dirty.len(), words.len())?;
+    let word = replacement::fresh(g.ways, g.rule).unwrap();
+    tags.fill(0);
+    valid.fill(0);
+    dirty.fill(0);
+    words.fill(word);
+    Ok(())
 }
 
 // Sixteen domains without ways or counts.
 pub fn fresh_domains() -> Domains
     ensures { result ≡ fresh_domains }
 {
-    let none = Domain {
-        hit: 0,
-        fill: 0,
-        counts: Counts {
-            hits: 0,
-            misses: 0,
-            evicted: 0,
-            written: 0,
-            flushed: 0,
-            fills: 0,
-            dropped: 0,
-        },
-    };
     Domains {
-        records: [none; 16],
+        records: [Domain::default(); 16],
     }
 }

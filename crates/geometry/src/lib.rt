@@ -2,10 +2,13 @@
 #![tactic(auto)]
 
 ghost use Rattle.std.specs.Prelude.{◌≡◌};
+ghost use Rattle.command.specs.Refusal.{number_in};
 ghost use Rattle.geometry.specs.Geometry.{within as within_limits, sized as sized_as, sizes_of};
 ghost use Rattle.geometry.specs.Address.{place_of};
 ghost use Rattle.geometry.specs.Inside.{Limited};
 ghost use Rattle.geometry.specs.Named.{geometry_of};
+
+use command::Refusal;
 
 // The most sets of a cache.
 pub const MAX_SETS: usize = 4096;
@@ -22,9 +25,9 @@ pub struct Geometry {
 pub fn named(bytes: &[u8]) -> Geometry
     ensures { result ≡ geometry_of bytes.now }
 {
-    let sets = endian::u16_at(bytes, 0) as usize;
-    let ways = endian::u8_at(bytes, 2) as usize;
-    let rule = endian::u8_at(bytes, 3) as usize;
+    let sets = endian::at::<u16>(bytes, 0) as usize;
+    let ways = endian::at::<u8>(bytes, 2) as usize;
+    let rule = endian::at::<u8>(bytes, 3) as usize;
     Geometry { sets, ways, rule }
 }
 
@@ -33,16 +36,10 @@ pub fn within(g: Geometry) -> bool
     ensures { result ≡ within_limits g }
 {
     let sets = g.sets;
-    if sets == 0 {
-        return false;
-    }
-    if MAX_SETS < sets {
-        return false;
-    }
-    if sets & (sets - 1) != 0 {
-        return false;
-    }
-    replacement::in_limits(g.ways, g.rule)
+    sets != 0
+        && sets <= MAX_SETS
+        && sets & (sets - 1) == 0
+        && replacement::in_limits(g.ways, g.rule)
 }
 
 // Whether the tables have their lengths.
@@ -51,29 +48,26 @@ fn sized(g: Geometry, tags: usize, valid: usize, dirty: usize, words: usize) -> 
     ensures { result ≡ sized_as g (record { tags = tags; valid = valid; dirty = dirty; words = words }) }
 {
     let sets = g.sets;
-    if tags != sets * g.ways {
-        return false;
-    }
-    if valid != sets {
-        return false;
-    }
-    if dirty != sets {
-        return false;
-    }
-    words == sets
+    tags == sets * g.ways && valid == sets && dirty == sets && words == sets
 }
 
-// Numbers 1 and 2; 0 for neither.
-pub fn sizes(g: Geometry, tags: usize, valid: usize, dirty: usize, words: usize) -> usize
-    ensures { result ≡ sizes_of g (record { tags = tags; valid = valid; dirty = dirty; words = words }) }
+// Numbers 1 and 2: the geometry is within the limits, and the tables have its lengths.
+pub fn sizes(
+    g: Geometry,
+    tags: usize,
+    valid: usize,
+    dirty: usize,
+    words: usize,
+) -> Result<(), Refusal>
+    ensures { number_in result ≡ sizes_of g (record { tags = tags; valid = valid; dirty = dirty; words = words }) }
 {
-    if within(g) {} else {
-        return 1;
+    if !within(g) {
+        return Err(Refusal::Limits);
     }
-    if sized(g, tags, valid, dirty, words) {} else {
-        return 2;
+    if !sized(g, tags, valid, dirty, words) {
+        return Err(Refusal::Lengths);
     }
-    0
+    Ok(())
 }
 
 // An address's set, and its tag there.

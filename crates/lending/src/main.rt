@@ -18,13 +18,16 @@ use cores::{Reply, Stepped};
 use domains::Domains;
 use geometry::Geometry;
 use selectors::Core;
-use std::io::Stdout;
+use std::io::{Result, Stdout, Write};
+
+// How many records there are.
+const RECORDS: usize = 33;
 
 // What a step gives, and the records after it.
 #[derive(Clone, Copy)]
 struct Lent {
     stepped: Stepped,
-    list: [Core; 33],
+    list: [Core; RECORDS],
 }
 
 // One step, which is lent the first n records of a list. What it does to them is what the list has afterwards, and the records behind them are as they were.
@@ -35,13 +38,13 @@ fn lend(
     dirty: &mut [u16],
     words: &mut [u64],
     domains: Domains,
-    mut list: [Core; 33],
+    mut list: [Core; RECORDS],
     n: usize,
     named: usize,
     kind: u8,
     argument: u64,
 ) -> Lent
-    requires { n ≤ 33 }
+    requires { n ≤ RECORDS }
     ensures { (result_of result.stepped (tables_of tags.new valid.new dirty.new words.new) (take n result.list)
         ≡ core_step g (record { domain = named; kind = kind; argument = argument })
         (lent_of (tables_of tags.old valid.old dirty.old words.old) domains (take n list)))
@@ -64,64 +67,36 @@ fn lend(
 
 // ---- Writing
 
-fn show_field(stdout: &mut Stdout, n: u64) {
-    streams::write_all(stdout, b" ");
-    streams::print_decimal(stdout, n);
-}
-
-fn show_fields(stdout: &mut Stdout, first: u64, second: u64, third: u64) {
-    show_field(stdout, first);
-    show_field(stdout, second);
-    show_field(stdout, third);
-}
-
 // An answer's word and three fields.
-fn show_answer(stdout: &mut Stdout, answer: Answer) {
-    streams::write_all(stdout, b"=");
-    let fields = match answer {
+fn show_answer(stdout: &mut Stdout, answer: Answer) -> Result<()> {
+    let [word, first, second, third] = match answer {
         Answer::Hit(way) => [0, way as u64, 0, 0],
         Answer::Fill(way) => [1, way as u64, 0, 0],
-        Answer::Evict { way, tag, dirty } => [2, way as u64, tag, dirty as u64],
+        Answer::Evict { way, tag, dirty } => [2, way as u64, tag, u64::from(dirty)],
         Answer::Pass => [3, 0, 0, 0],
-        Answer::Flush { way, dirty } => [4, way as u64, dirty as u64, 0],
+        Answer::Flush { way, dirty } => [4, way as u64, u64::from(dirty), 0],
         Answer::Absent => [5, 0, 0, 0],
         Answer::Policy { dropped, dirty } => [6, dropped as u64, dirty as u64, 0],
         Answer::Refused(number) => [7, number as u64, 0, 0],
     };
-    show_field(stdout, fields[0]);
-    show_fields(stdout, fields[1], fields[2], fields[3]);
+    write!(stdout, "= {word} {first} {second} {third}")
 }
 
-fn show_reply(stdout: &mut Stdout, reply: Reply) {
+fn show_reply(stdout: &mut Stdout, reply: Reply) -> Result<()> {
     match reply {
         Reply::Cache(answer) => show_answer(stdout, answer),
-        Reply::Select(core) => {
-            streams::write_all(stdout, b"= 8");
-            show_fields(stdout, core.cs as u64, core.ds as u64, core.es as u64);
-        }
+        Reply::Select(Core { cs, ds, es }) => write!(stdout, "= 8 {cs} {ds} {es}"),
     }
 }
 
-// A record, if it is not as it was.
-fn show_core(stdout: &mut Stdout, place: usize, old: Core, core: Core) {
-    if old.cs == core.cs {
-        if old.ds == core.ds {
-            if old.es == core.es {
-                return;
-            }
+// The records that are not as they were, each with its place.
+fn show_cores(stdout: &mut Stdout, old: &[Core; RECORDS], list: &[Core; RECORDS]) -> Result<()> {
+    for (place, (core, old)) in list.iter().zip(old).enumerate() {
+        if core != old {
+            write!(stdout, " | {place}: {} {} {}", core.cs, core.ds, core.es)?;
         }
     }
-    streams::write_all(stdout, b" |");
-    show_field(stdout, place as u64);
-    streams::write_all(stdout, b":");
-    show_fields(stdout, core.cs as u64, core.ds as u64, core.es as u64);
-}
-
-fn show_cores(stdout: &mut Stdout, old: [Core; 33], list: [Core; 33]) {
-    for i in 0..33 {
-        show_core(stdout, i, old[i], list[i]);
-    }
-    streams::write_all(stdout, b"\n");
+    writeln!(stdout)
 }
 
 // ---- Calling
@@ -131,17 +106,8 @@ fn show_cores(stdout: &mut Stdout, old: [Core; 33], list: [Core; 33]) {
 struct Bench {
     sets: usize,
     domains: Domains,
-    list: [Core; 33],
+    list: [Core; RECORDS],
     count: usize,
-}
-
-fn at_most(n: usize, limit: usize) -> usize
-    ensures { result ≤ limit }
-{
-    if limit < n {
-        return limit;
-    }
-    n
 }
 
 fn low(n: u64) -> u8 {
@@ -160,15 +126,14 @@ fn told_of(sets: usize) -> Geometry {
 // A step, and what it did.
 fn step(
     stdout: &mut Stdout,
-    bench: Bench,
+    bench: &mut Bench,
     tags: &mut [u64],
     valid: &mut [u16],
     dirty: &mut [u16],
     words: &mut [u64],
     numbers: [u64; 5],
-) -> Bench {
+) -> Result<()> {
     let old = bench.list;
-    let n = at_most(bench.count, 33);
     let done = lend(
         told_of(bench.sets),
         tags,
@@ -177,70 +142,50 @@ fn step(
         words,
         bench.domains,
         old,
-        n,
+        bench.count.min(RECORDS),
         numbers[1] as usize,
         low(numbers[2]),
         numbers[3],
     );
-    let stepped = done.stepped;
-    let list = done.list;
-    let reply = stepped.reply;
-    show_reply(stdout, reply);
-    show_cores(stdout, old, list);
-    let domains = stepped.domains;
-    Bench {
-        sets: bench.sets,
-        domains,
-        list,
-        count: bench.count,
-    }
+    bench.list = done.list;
+    bench.domains = done.stepped.domains;
+    show_reply(stdout, done.stepped.reply)?;
+    show_cores(stdout, &old, &done.list)
 }
 
 // A record with selectors of any content.
-fn with_core(bench: Bench, numbers: [u64; 5]) -> Bench {
-    let mut next = bench;
-    let i = (numbers[1] % 33) as usize;
-    next.list[i] = Core {
+fn put_core(bench: &mut Bench, numbers: [u64; 5]) {
+    let place = numbers[1] as usize % RECORDS;
+    bench.list[place] = Core {
         cs: low(numbers[2]),
         ds: low(numbers[3]),
         es: low(numbers[4]),
     };
-    next
 }
 
 // Does what a line asks for.
 fn do_line(
     stdout: &mut Stdout,
-    bench: Bench,
+    bench: &mut Bench,
     tags: &mut [u64; 4],
     valid: &mut [u16; 1],
     dirty: &mut [u16; 1],
     words: &mut [u64; 1],
     line: &[u8],
-) -> Bench
-    requires { 0 < length line.now }
-{
-    streams::write_all(stdout, line);
+) -> Result<()> {
+    streams::write_all(stdout, line)?;
     let numbers = script::numbers_of(line);
-    let mut next = bench;
-    match line[0] {
-        b'l' => {
-            next.count = numbers[1] as usize;
-        }
-        b'g' => {
-            next.sets = numbers[1] as usize;
-        }
-        b'c' => {
-            next = with_core(bench, numbers);
-        }
-        b's' => {
-            next = step(stdout, bench, tags, valid, dirty, words, numbers);
-        }
+    match line.first() {
+        Some(b'l') => bench.count = numbers[1] as usize,
+        Some(b'g') => bench.sets = numbers[1] as usize,
+        Some(b'c') => put_core(bench, numbers),
+        Some(b's') => step(stdout, bench, tags, valid, dirty, words, numbers)?,
         _ => {}
     }
-    next
+    Ok(())
 }
 
+// Does what the lines of a script ask for, up to the first that cannot be written.
 fn run(
     stdout: &mut Stdout,
     tags: &mut [u64; 4],
@@ -248,34 +193,42 @@ fn run(
     dirty: &mut [u16; 1],
     words: &mut [u64; 1],
     text: &[u8],
-) {
+) -> Result<()> {
     let mut bench = Bench {
         sets: 1,
         domains: fresh::fresh_domains(),
-        list: [Core {
-            cs: 0,
-            ds: 0,
-            es: 0,
-        }; 33],
+        list: [Core::default(); RECORDS],
         count: 0,
     };
     let mut from = 0;
+    // The lines are those of `script::line_after`, which has a contract, so that no iterator takes its place.
     while from < text.len() {
         let next = script::line_after(text, from);
-        bench = do_line(stdout, bench, tags, valid, dirty, words, &text[from..next]);
+        do_line(
+            stdout,
+            &mut bench,
+            tags,
+            valid,
+            dirty,
+            words,
+            &text[from..next],
+        )?;
         from = next;
     }
+    Ok(())
 }
 
 fn main(rt: HostRuntime) {
-    let mut text = [0u8; 40969];
-    let got = streams::read_file(&mut rt.stdin(), &mut text);
-    let count = got.count;
-    let mut tags = [0u64; 4];
-    let mut valid = [0u16; 1];
-    let mut dirty = [0u16; 1];
-    let mut words = [0u64; 1];
-    run(
+    let mut text = [0; streams::ROOM];
+    let count = streams::read_file(&mut rt.stdin(), &mut text).unwrap_or_else(
+        |unread| unread.count,
+    );
+    let mut tags = [0; 4];
+    let mut valid = [0; 1];
+    let mut dirty = [0; 1];
+    let mut words = [0; 1];
+    // A failed write ends the script, and is not told.
+    let _ = run(
         &mut rt.stdout(),
         &mut tags,
         &mut valid,

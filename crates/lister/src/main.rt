@@ -2,12 +2,12 @@
 // that was not read to its end is not listed.
 #![tactic(auto)]
 
-use std::io::Stdout;
+use std::io::{Result, Stdout};
 use trace::TAGS;
 use tracefile::MAX_SETS;
 
-// Lists a file, and answers whether the whole listing was written.
-fn show(stdout: &mut Stdout, file: &[u8]) -> bool {
+// Lists a file.
+fn show_file(stdout: &mut Stdout, file: &[u8]) -> Result<()> {
     let mut tags = [0u64; TAGS];
     let mut valid = [0u16; MAX_SETS];
     let mut dirty = [0u16; MAX_SETS];
@@ -20,21 +20,7 @@ fn show(stdout: &mut Stdout, file: &[u8]) -> bool {
 }
 
 fn main(rt: HostRuntime) {
-    let mut file = [0u8; 40969];
-    let got = streams::read_file(&mut rt.stdin(), &mut file);
-    let count = got.count;
-    if got.whole {
-        if show(&mut rt.stdout(), &file[..count]) {
-            return;
-        }
-        streams::write_all(
-            &mut rt.stderr(),
-            b"lister: standard output could not be written\n",
-        );
-        return;
+    if let Err(failure) = streams::show_input(&mut rt.stdin(), &mut rt.stdout(), show_file) {
+        let _ = eprintln!(rt; "lister: {failure}");
     }
-    streams::write_all(
-        &mut rt.stderr(),
-        b"lister: standard input could not be read to its end\n",
-    );
 }

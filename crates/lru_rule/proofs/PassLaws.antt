@@ -8,11 +8,15 @@ use native.Mathlib.Omega.{arith}
 use lib.Dec.{eqb, ltb}
 use lib.Bits.{bit_or, or_lt}
 use lib.Pow.{pow-add, shl-shr, shr-shr, field}
+use borrow.Author.Tests.{eq-eqb, ne_eqb, not-true, not-false}
+use Rattle.std.specs.Prelude.{Option, Some, None}
 use Rattle.waymap.specs.Bits.{Bits, bit, word}
+use Rattle.waymap.proofs.Booleans.{cases}
 use Rattle.waymap.proofs.BitLaws.{bit_or_lem, bit_none}
 use Rattle.waymap.proofs.WordLaws.{word_lt}
 use Rattle.lru_rule.specs.Lru.{places, times, malformed, kept}
 use Rattle.lru_rule.specs.Calls.{ahead}
+use Rattle.lru_rule.specs.Inside.{passed}
 use Rattle.lru_rule.proofs.BeforeLaws.{stands, stands_cons}
 use Rattle.lru_rule.proofs.LoopLaws.{four_bits, places_from, way_bit, high_malformed, formed_is}
 
@@ -146,3 +150,39 @@ module _ {W x : ℕ} {m : Bits} {y seen rest out : ℕ} (k : ℕ) (p : Passing W
   pass_ways e z =
       formed_is W x p.small p.seen_lt all_seen e
       (div-eq_of_lt (lt_of_le_of_lt (le_of_eq (sym z ∙ back)) (mod-lt x (one-le-pow W 16 (omega arith)))))
+
+  -- what the pass gives, by what its tests find
+  pub given_high : (raised x W / 2 ^ (64 - 4 * W) ≡ x → ⊥) → None ≡ passed m y W x
+  unfolding passed
+  given_high n = rw (not-false (malformed W x) (sym (pass_high n)))
+
+  pub given_other : {all : ℕ} → all ≡ word 16 (λ (w : ℕ). ltb w W) → raised x W / 2 ^ (64 - 4 * W) ≡ x → (seen ≡ all → ⊥) → None ≡ passed m y W x
+  unfolding passed
+  given_other {all} e z n = rw (not-false (malformed W x) (sym (pass_ways e z) ∙ ne_eqb seen all n))
+
+  pub given_formed : {all : ℕ} → all ≡ word 16 (λ (w : ℕ). ltb w W) → raised x W / 2 ^ (64 - 4 * W) ≡ x → seen ≡ all → Some out ≡ passed m y W x
+  unfolding passed
+  given_formed {all} e z s = rw (not-true (malformed W x) (sym (pass_ways e z) ∙ eq-eqb seen all s)) (ap Some pass_put)
+
+-- a word that is formed gives its ways
+pub passed_formed : (m : Bits) (y W x : ℕ) → malformed W x ≡ false → passed m y W x ≡ Some (ahead (kept m (places W x)) y)
+unfolding passed
+passed_formed m y W x f = rw f
+
+some_same : (a b : ℕ) → ◌≡◌ {A = Option ℕ} (Some a) (Some b) → a ≡ b
+some_same a b e = cc
+
+none_other : (b : ℕ) → ◌≡◌ {A = Option ℕ} None (Some b) → ⊥
+none_other b e = cc
+
+-- and what is given or not says whether it is
+pub passed_some : (m : Bits) (y W x : ℕ) {z : ℕ} → Some z ≡ passed m y W x → (malformed W x ≡ false) × (z ≡ ahead (kept m (places W x)) y)
+unfolding passed
+passed_some m y W x {z} e =
+    cases (malformed W x)
+    (λ t. absurd (none_other z (sym (rw t at e))))
+    (λ t. (t, some_same z (ahead (kept m (places W x)) y) (rw t at e)))
+
+pub passed_none : (m : Bits) (y W x : ℕ) → None ≡ passed m y W x → malformed W x ≡ true
+unfolding passed
+passed_none m y W x e = cases (malformed W x) (λ t. t) (λ t. absurd (none_other (ahead (kept m (places W x)) y) (rw t at e)))

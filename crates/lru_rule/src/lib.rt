@@ -10,7 +10,7 @@ ghost use Rattle.lru_rule.specs.Calls.{victim_of, touch_of, change_of, reset_of,
 pub fn victim(ways: usize, word: u64, map: u16) -> usize
     ensures { result ≡ victim_of ways word map }
 {
-    if waymap::takes(ways, map) {} else {
+    if !waymap::takes(ways, map) {
         return 0;
     }
     orders::oldest(ways, orders::read(ways, word), map)
@@ -20,10 +20,10 @@ pub fn victim(ways: usize, word: u64, map: u16) -> usize
 pub fn touch(ways: usize, word: u64, map: u16, way: usize) -> u64
     ensures { result ≡ touch_of ways word map way }
 {
-    if waymap::takes(ways, map) {} else {
+    if !waymap::takes(ways, map) {
         return word;
     }
-    if waymap::has(map, way) {} else {
+    if !waymap::has(map, way) {
         return word;
     }
     let order = orders::read(ways, word);
@@ -53,27 +53,25 @@ pub fn reset(ways: usize, word: u64, moves: Moves) -> u64
     ensures { result ≡ reset_of ways word moves }
 {
     let moved = moves.ways;
-    if waymap::takes(ways, moved) {} else {
+    if !waymap::takes(ways, moved) {
         return word;
     }
-    let found = orders::pass(ways, word, !moved, moves.tail);
-    if found.formed {
-        return orders::written(word, word, found.out);
+    if let Some(next) = orders::pass(ways, word, !moved, moves.tail) {
+        return orders::written(word, word, next);
     }
     let order = orders::fresh(ways);
-    let again = orders::pass(ways, order, !moved, moves.tail);
-    orders::written(word, order, again.out)
+    let next = orders::pass(ways, order, !moved, moves.tail).unwrap();
+    orders::written(word, order, next)
 }
 
 // The own part of a word: the map's ways in their order.
 pub fn own(ways: usize, word: u64, map: u16) -> u64
     ensures { result ≡ own_of ways word map }
 {
-    if waymap::takes(ways, map) {} else {
+    if !waymap::takes(ways, map) {
         return 0;
     }
-    let found = orders::pass(ways, orders::read(ways, word), map, 0);
-    found.out
+    orders::pass(ways, orders::read(ways, word), map, 0).unwrap()
 }
 
 // The word of a fresh cache.

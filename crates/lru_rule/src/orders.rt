@@ -4,7 +4,7 @@ ghost use Rattle.waymap.specs.Bits.{bit};
 ghost use Rattle.waymap.specs.Ways.{Sized};
 ghost use Rattle.lru_rule.specs.Lru.{places, word_of, malformed, order, kept, last, fresh as fresh_order};
 ghost use Rattle.lru_rule.specs.Calls.{ahead};
-ghost use Rattle.lru_rule.specs.Inside.{rank, lifted};
+ghost use Rattle.lru_rule.specs.Inside.{rank, lifted, passed};
 
 // The way at place k.
 fn at(word: u64, k: usize) -> usize
@@ -21,16 +21,11 @@ fn holds_each(ways: usize, word: u64) -> bool
 {
     let mut seen: u16 = 0;
     let mut rest = word;
-    let mut k = 0;
-    while k < ways {
-        seen = seen | waymap::only((rest % 16) as usize);
-        rest = rest / 16;
-        k += 1;
+    for _ in 0..ways {
+        seen |= waymap::only((rest % 16) as usize);
+        rest /= 16;
     }
-    if rest == 0 {
-        return seen == waymap::all(ways);
-    }
-    false
+    rest == 0 && seen == waymap::all(ways)
 }
 
 // The fresh order.
@@ -57,9 +52,7 @@ pub fn oldest(ways: usize, order: u64, map: u16) -> usize
     requires { Sized ways }
     ensures { result ≡ last 0 (kept (bit map) (places ways order)) }
 {
-    let mut k = ways;
-    while 0 < k {
-        k -= 1;
+    for k in (0..ways).rev() {
         let way = at(order, k);
         if waymap::has(map, way) {
             return way;
@@ -68,43 +61,30 @@ pub fn oldest(ways: usize, order: u64, map: u16) -> usize
     0
 }
 
-// What one pass over the places of a word finds: whether it holds each way exactly once and nothing above, as `holds_each` tells, and its ways
-// of a map, put before the places of another word.
-#[derive(Clone, Copy)]
-pub struct Found {
-    pub formed: bool,
-    pub out: u64,
-}
-
-// A change of fill map goes through the words of all sets, and so through each word once. The places are shifted so that the oldest stands at the
-// top, and are taken from there.
-pub fn pass(ways: usize, word: u64, map: u16, tail: u64) -> Found
+// In one pass over the places of a word, its ways of a map, put before the places of another word; nothing where the word does not hold each way
+// exactly once and nothing above, as `holds_each` tells. A change of fill map goes through the words of all sets, and so through each word once.
+// The places are shifted so that the oldest stands at the top, and are taken from there.
+pub fn pass(ways: usize, word: u64, map: u16, tail: u64) -> Option<u64>
     requires { Sized ways }
-    ensures formed_value { result.formed ≡ not (malformed ways word) }
-    ensures out_value { result.out ≡ ahead (kept (bit map) (places ways word)) tail }
+    ensures { result ≡ passed (bit map) tail ways word }
 {
     let shift = 64 - 4 * ways;
     let top = word << shift;
     let mut rest = top;
     let mut seen: u16 = 0;
     let mut out = tail;
-    let mut k = ways;
-    while 0 < k {
-        k -= 1;
+    for _ in 0..ways {
         let way = rest >> 60;
-        rest = rest << 4;
-        seen = seen | waymap::only(way as usize);
+        rest <<= 4;
+        seen |= waymap::only(way as usize);
         if waymap::has(map, way as usize) {
             out = (out << 4) + way;
         }
     }
-    if top >> shift != word {
-        return Found { formed: false, out };
+    if top >> shift != word || seen != waymap::all(ways) {
+        return None;
     }
-    Found {
-        formed: seen == waymap::all(ways),
-        out,
-    }
+    Some(out)
 }
 
 // The place of a way that stands in an order.
@@ -113,11 +93,12 @@ fn place_of(ways: usize, order: u64, way: usize) -> usize
     requires order_bound { rank way (places ways order) < ways }
     ensures { result ≡ rank way (places ways order) }
 {
-    let mut k = 0;
-    while at(order, k) != way {
-        k += 1;
+    for k in 0..ways {
+        if at(order, k) == way {
+            return k;
+        }
     }
-    k
+    unreachable!()
 }
 
 // The order with the way that stands at place k brought to place 0.
@@ -142,7 +123,7 @@ pub fn touched(ways: usize, order: u64, way: usize) -> u64
     lift(order, place_of(ways, order, way), way)
 }
 
-// The ways of a map, the highest the most recent.
+// The ways of a map, the highest the most recent. (The loop is over what is left of the map, by trailing zeros: no place is counted in it.)
 pub fn falling(map: u16) -> u64
     ensures { result ≡ ahead (kept (bit map) (fresh_order 16)) 0 }
 {

@@ -3,77 +3,33 @@
 // file that is refused gives the one line `refused` and its number. A failed read or write is told on standard error.
 #![tactic(auto)]
 
-use replacement::Reply;
-use std::io::Stdout;
+use std::io::{Result, Stdout, Write};
 
-// Writes a number and the line's end, and answers whether both were written.
-fn show_number(stdout: &mut Stdout, n: u64) -> bool {
-    if streams::print_decimal(stdout, n) {
-        return streams::write_all(stdout, b"\n");
-    }
-    false
-}
-
-// Writes that a call or a file is refused.
-fn show_refused(stdout: &mut Stdout, number: u64) -> bool {
-    if streams::write_all(stdout, b"refused ") {
-        return show_number(stdout, number);
-    }
-    false
-}
-
-// Writes the own part of a word.
-fn show_part(stdout: &mut Stdout, ways: usize, rule: usize, word: u64, map: u16) -> bool {
-    let outcome = replacement::own(ways, rule, word, map);
-    let reply = outcome.reply;
-    match reply {
-        Reply::Done => show_number(stdout, outcome.word),
-        Reply::OutOfReach => show_refused(stdout, 5),
-        _ => show_refused(stdout, 1),
+// Writes the own part of a word, or why there is none.
+fn show_part(stdout: &mut Stdout, ways: usize, rule: usize, word: u64, map: u16) -> Result<()> {
+    match replacement::own(ways, rule, word, map) {
+        Ok(part) => writeln!(stdout, "{part}"),
+        Err(refusal) => writeln!(stdout, "refused {}", refusal.number()),
     }
 }
 
-// Writes the parts of a file's words, up to the first that cannot be written, and answers whether all were.
-fn show_file(stdout: &mut Stdout, file: &[u8]) -> bool {
-    let number = tracefile::refusal(file);
-    if number != 0 {
-        return show_refused(stdout, number as u64);
+// Writes the parts of a file's words, up to the first that cannot be written.
+fn show_file(stdout: &mut Stdout, file: &[u8]) -> Result<()> {
+    if let Err(refusal) = tracefile::refusal(file) {
+        return writeln!(stdout, "refused {}", refusal.number());
     }
     let g = geometry::named(file);
     let n = tracefile::steps(file);
-    let mut i = 0;
-    while i < n {
+    for i in 0..n {
         let entry = tracefile::command_at(file, n, i);
-        if show_part(
-            stdout,
-            g.ways,
-            g.rule,
-            entry.argument,
-            command::code_of(entry),
-        ) {} else {
-            return false;
-        }
-        i += 1;
+        let map = command::code_of(entry);
+        show_part(stdout, g.ways, g.rule, entry.argument, map)?;
     }
-    true
+    Ok(())
 }
 
 fn main(rt: HostRuntime) {
-    let mut file = [0u8; 40969];
-    let got = streams::read_file(&mut rt.stdin(), &mut file);
-    let count = got.count;
-    if got.whole {
-        if show_file(&mut rt.stdout(), &file[..count]) {
-            return;
-        }
-        streams::write_all(
-            &mut rt.stderr(),
-            b"parts: standard output could not be written\n",
-        );
-        return;
+    if let Err(failure) = streams::show_input(&mut rt.stdin(), &mut rt.stdout(), show_file) {
+        let _ = eprintln!(rt; "parts: {failure}");
     }
-    streams::write_all(
-        &mut rt.stderr(),
-        b"parts: standard input could not be read to its end\n",
-    );
 }

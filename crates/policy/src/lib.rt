@@ -5,7 +5,7 @@ ghost use Rattle.std.specs.Prelude.{◌≡◌};
 ghost use Rattle.policy.specs.Policy.{as_read, new_maps, bad_argument};
 
 // A domain's hit map and fill map.
-#[derive(Clone, Copy)]
+#[derive(Clone, Copy, Default)]
 pub struct Maps {
     pub hit: u16,
     pub fill: u16,
@@ -37,11 +37,5 @@ pub fn bad_argument(ways: usize, argument: u64) -> bool
     ensures { result ≡ bad_argument ways argument }
 {
     let new = new_maps(argument);
-    if waymap::fits(new.hit, ways) {} else {
-        return true;
-    }
-    if new.fill & !new.hit != 0 {
-        return true;
-    }
-    argument / 4294967296 != 0
+    !waymap::fits(new.hit, ways) || new.fill & !new.hit != 0 || argument / 4294967296 != 0
 }

@@ -1,9 +1,9 @@
 -- Which steps the purge keeps: those of the chosen domain, and those that are no access and no flush; and no others.
-use mathlib.Core.Path.{◌≡◌, sym}
+use mathlib.Core.Path.{◌≡◌, sym, ◌∙◌}
 use mathlib.Core.Bool.{true, false, not, true≢false}
 use Prim.Native.Nat.{ℕ, ◌≤◌, ◌<◌}
 use native.Mathlib.Omega.{arith}
-use lib.Dec.{leb, ltb}
+use lib.Dec.{eqb, leb, ltb}
 use borrow.Author.Tests.{leb-true, leb-false, lt-ltb, le-ltb, ltb-true, ltb-false, eq-eqb, ne_eqb, not-true, not-false}
 use Rattle.waymap.proofs.Booleans.{cases}
 use Rattle.command.specs.Command.{Command}
@@ -49,8 +49,8 @@ at_least a b = cases (leb a b)
     (λ y. rw (y, le-ltb b a (leb-true a b y)))
     (λ n. rw (n, lt-ltb b a (leb-false a b n)))
 
-pub stays_own : (d : ℕ) (c : Command) → c.domain ≡ d → true ≡ keeps d c
-stays_own d c own = sym (keeps_own d c own)
+pub stays_own : (d : ℕ) (c : Command) → c.domain ≡ d → eqb c.domain d ≡ keeps d c
+stays_own d c own = eq-eqb c.domain d own ∙ sym (keeps_own d c own)
 
 pub stays_other : (d : ℕ) (c : Command) → (c.domain ≡ d → ⊥) → leb 4 c.kind ≡ keeps d c
 unfolding keeps

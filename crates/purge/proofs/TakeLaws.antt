@@ -2,13 +2,16 @@
 use mathlib.Core.Path.{◌≡◌, refl, sym, ap, ap₂, subst, ◌∙◌}
 use mathlib.Core.Bool.{Bool, true, false, cond}
 use mathlib.Core.List.{List, [], ◌∷◌, ◌++◌, map, append-nil, append_assoc, map-append}
-use Prim.Native.Nat.{ℕ, suc, ◌+◌, ◌%◌, ◌≤◌, ◌<◌}
+use mathlib.Core.Logic.{◌⊎◌, inl, inr}
+use Prim.Native.Nat.{ℕ, suc, ◌+◌, ◌%◌, ◌≤◌, ◌<◌, min}
 use native.Mathlib.Numerals.{add-one}
 use native.Mathlib.Omega.{arith}
 use lib.Dec.{ltb}
 use lib.ListN.{length, drop, set, get_or, length-set, length-replicate, length-map, length-append, length-drop, drop_of_length-le}
 use borrow.Author.Tests.{eq-eqb, ne_eqb}
 use Rattle.waymap.proofs.Booleans.{cases}
+use Rattle.std.specs.Prelude.{Ok, Err}
+use Rattle.command.specs.declared.Refusal.TheVariants.{Lengths}
 use Rattle.command.specs.Command.{Command, command_of, code_of, argument_of, commands_of}
 use Rattle.command.proofs.CommandLaws.{code_of_command}
 use Rattle.command.proofs.ListLaws.{store_next, drop_next}
@@ -162,7 +165,7 @@ module _ {d : ℕ} {codes arguments out_codes out_arguments new_codes new_argume
   -- one turn, where the code has the place as p
   pub turned : (r : ℕ) {codes' arguments' : List ℕ} {p : ℕ} {m : Meant} {core : Core} → p ≡ place
       → m ≡ meant_by (ltb this.domain max_cores) (get_or cores p no_core) this → core ≡ record_by m (get_or cores p no_core)
-      → taken_of (record { number = 0; count = r }) codes' arguments' ≡ take_one (keeps_by d m) (get_or codes i 0) (get_or arguments i 0) count new_codes new_arguments
+      → taken_of (Ok r) codes' arguments' ≡ take_one (keeps_by d m) (get_or codes i 0) (get_or arguments i 0) count new_codes new_arguments
       → Taking d codes arguments out_codes out_arguments codes' arguments' (set cores p core) r (i + 1)
   unfolding take_one
   turned r {codes'} {arguments'} {p} {m} {core} stands means is e =
@@ -171,14 +174,14 @@ module _ {d : ℕ} {codes arguments out_codes out_arguments new_codes new_argume
       (λ k. go (rw (m_is, k) at e) (taken k))
       (λ k. go (rw (m_is, k) at e) (left k)))
     where
-      go : {x : Taken} → taken_of (record { number = 0; count = r }) codes' arguments' ≡ x
+      go : {x : Taken} → taken_of (Ok r) codes' arguments' ≡ x
           → Taking d codes arguments out_codes out_arguments x.codes x.arguments after x.count (i + 1)
           → Taking d codes arguments out_codes out_arguments codes' arguments' after r (i + 1)
       go {x} q w = subst (λ (y : Taken). Taking d codes arguments out_codes out_arguments y.codes y.arguments after y.count (i + 1)) (sym q) w
 
 module _ {d : ℕ} {codes arguments out_codes out_arguments new_codes new_arguments : List ℕ} {cores : List Core} {count i : ℕ} where
   pub end : Taking d codes arguments out_codes out_arguments new_codes new_arguments cores count i → length codes ≤ i
-      → taken_of (record { number = 0; count = count }) new_codes new_arguments ≡ purge_of d codes arguments out_codes out_arguments
+      → taken_of (Ok count) new_codes new_arguments ≡ purge_of d codes arguments out_codes out_arguments
   unfolding purge_of core_purge commands_of
   end t h =
       rw (
@@ -191,21 +194,50 @@ module _ {d : ℕ} {codes arguments out_codes out_arguments new_codes new_argume
       all : core_purge d (fresh_cores max_cores) (commands_of codes arguments) ≡ t.kept
       all = t.is ∙ rw (drop_of_length-le codes h) (append-nil t.kept)
 
+-- ---- the loop over both tables side by side, which has given as many pairs as there were turns
+
+module _ {A : Type 0} {d : ℕ} {codes arguments out_codes out_arguments new_codes new_arguments : List ℕ} {cores : List Core} {count : ℕ} where
+  pub turned_by : (given : List A) (pair : A) → Taking d codes arguments out_codes out_arguments new_codes new_arguments cores count (length given)
+      → length given < length codes → {code argument : ℕ} → code ≡ get_or codes (length given) 0 → argument ≡ get_or arguments (length given) 0
+      → (r : ℕ) {codes' arguments' : List ℕ} {p : ℕ} {m : Meant} {core : Core} → p ≡ code % 256 % max_cores
+      → m ≡ meant_by (ltb (code % 256) max_cores) (get_or cores p no_core) (command_of code argument) → core ≡ record_by m (get_or cores p no_core)
+      → taken_of (Ok r) codes' arguments' ≡ take_one (keeps_by d m) code argument count new_codes new_arguments
+      → Taking d codes arguments out_codes out_arguments codes' arguments' (set cores p core) r (length (given ++ pair ∷ []))
+  unfolding command_of
+  turned_by given pair t h {code} {argument} c a r {codes'} {arguments'} {p} {m} {core} stands means is e =
+      rw (length-append given (pair ∷ []))
+      (turned t h r (rw c at stands) (rw (c, a) at means) is (rw (c, a) at e))
+
+module _ {d : ℕ} {codes arguments out_codes out_arguments new_codes new_arguments : List ℕ} {cores : List Core} {count : ℕ} where
+  pub ended_by : {given : ℕ} → Taking d codes arguments out_codes out_arguments new_codes new_arguments cores count given → length arguments ≡ length codes
+      → given ≡ min (length codes) (length arguments)
+      → taken_of (Ok count) new_codes new_arguments ≡ purge_of d codes arguments out_codes out_arguments
+  ended_by t s e = end t (omega (arith, e, s))
+
 -- ---- refusals
 
 module _ (d : ℕ) (codes arguments out_codes out_arguments : List ℕ) where
   abbrev Refused : Type 0
-  Refused = taken_of (record { number = 2; count = 0 }) out_codes out_arguments ≡ purge_of d codes arguments out_codes out_arguments
+  Refused = taken_of (Err Lengths) out_codes out_arguments ≡ purge_of d codes arguments out_codes out_arguments
 
-  pub refused_arguments : (length arguments ≡ length codes → ⊥) → Refused
+  refused_arguments : (length arguments ≡ length codes → ⊥) → Refused
   unfolding purge_of
   refused_arguments n = rw (ne_eqb (length arguments) (length codes) n)
 
-  pub refused_codes : length arguments ≡ length codes → (length out_codes ≡ length codes → ⊥) → Refused
+  refused_codes : length arguments ≡ length codes → (length out_codes ≡ length codes → ⊥) → Refused
   unfolding purge_of
   refused_codes s n = rw (eq-eqb (length arguments) (length codes) s, ne_eqb (length out_codes) (length codes) n)
 
-  pub refused_taken : length arguments ≡ length codes → length out_codes ≡ length codes → (length out_arguments ≡ length codes → ⊥) → Refused
+  refused_taken : length arguments ≡ length codes → length out_codes ≡ length codes → (length out_arguments ≡ length codes → ⊥) → Refused
   unfolding purge_of
   refused_taken s c n =
       rw (eq-eqb (length arguments) (length codes) s, eq-eqb (length out_codes) (length codes) c, ne_eqb (length out_arguments) (length codes) n)
+
+  -- any of the three lengths is another
+  pub refused : (length arguments ≡ length codes → ⊥)
+      ⊎ (((length arguments ≡ length codes) × (length out_codes ≡ length codes → ⊥))
+      ⊎ ((length arguments ≡ length codes) × (length out_codes ≡ length codes) × (length out_arguments ≡ length codes → ⊥)))
+      → Refused
+  refused (inl n) = refused_arguments n
+  refused (inr (inl t)) = refused_codes t.0 t.1
+  refused (inr (inr t)) = refused_taken t.0 t.1 t.2

@@ -1,9 +1,10 @@
 -- What the call that purges a trace gives.
-use Rattle.std.specs.Prelude.{cond, ◌&&◌, List, ◌++◌, map, ℕ, eqb, length, drop}
+use Rattle.std.specs.Prelude.{cond, ◌&&◌, List, ◌++◌, map, ℕ, eqb, length, drop, Result, Ok, Err}
 use Rattle.command.specs.Command.{Command, code_of, argument_of, commands_of}
+use Rattle.command.specs.Refusal.{number_of}
+use Rattle.command.specs.declared.Refusal.{Refusal}
 use Rattle.selectors.specs.Selectors.{max_cores, fresh_cores}
 use Rattle.purge.specs.Purge.{core_purge}
-use Rattle.purge.specs.declared.Purged.{Purged}
 
 -- The refusal's number or 0, how many steps are kept, and the two tables that take them: those steps, and after them what was there.
 pub record Taken : Type 0 where
@@ -12,8 +13,9 @@ pub record Taken : Type 0 where
   pub codes : List ℕ
   pub arguments : List ℕ
 
-abbrev pub taken_of : Purged → List ℕ → List ℕ → Taken
-taken_of r codes arguments = record { number = r.number; count = r.count; codes = codes; arguments = arguments }
+abbrev pub taken_of : Result ℕ Refusal → List ℕ → List ℕ → Taken
+taken_of (Ok count) codes arguments = record { number = 0; count = count; codes = codes; arguments = arguments }
+taken_of (Err refusal) codes arguments = record { number = number_of refusal; count = 0; codes = codes; arguments = arguments }
 
 abbrev pub taking : List Command → List ℕ → List ℕ → Taken
 taking cs codes arguments = record {

@@ -1,7 +1,7 @@
 // The struck-out list of a trace. A step is a code, its domain or core plus 256 times its kind, and an argument.
 #![tactic(auto)]
 
-ghost use Rattle.std.specs.Prelude.{◌≡◌, ◌%◌, ◌<◌, ltb, length};
+ghost use Rattle.std.specs.Prelude.{◌≡◌, ◌%◌, ◌<◌, ltb, length, Ok};
 ghost use Rattle.command.specs.Command.{command_of};
 ghost use Rattle.selectors.specs.Selectors.{max_cores, meant_by};
 ghost use Rattle.selectors.specs.Calls.{meaning_is};
@@ -9,17 +9,11 @@ ghost use Rattle.purge.specs.Purge.{keeps_by};
 ghost use Rattle.purge.specs.Calls.{taken_of, purge_of};
 ghost use Rattle.purge.specs.Inside.{take_one};
 
+use command::Refusal;
 use selectors::{Core, MAX_CORES, Meaning};
 
-// The refusal's number or 0, and how many steps are kept.
-#[derive(Clone, Copy)]
-pub struct Purged {
-    pub number: usize,
-    pub count: usize,
-}
-
 // What a step means where 32 records are lent, given that at its core's place.
-fn meaning_of(core: Core, code: u16, argument: u64) -> Meaning
+fn meaning_of(core: Core, code: u16, argument: u64) -> Result<Meaning, Refusal>
     ensures { meaning_is result ≡ meant_by (ltb (code % 256) max_cores) core (command_of code argument) }
 {
     let step = command::command_of(code, argument);
@@ -36,29 +30,20 @@ fn place_of(code: u16) -> usize
 }
 
 // Whether a step stays, by what it means.
-fn stays(domain: usize, meaning: Meaning) -> bool
-    ensures { result ≡ keeps_by domain (meaning_is meaning) }
+fn stays(chosen: usize, meaning: Result<Meaning, Refusal>) -> bool
+    ensures { result ≡ keeps_by chosen (meaning_is meaning) }
 {
     match meaning {
-        Meaning::Plain {
-            domain: named,
-            kind,
-            argument,
-        } => {
-            if named == domain {
-                return true;
-            }
-            4 <= kind
-        }
-        Meaning::Select(core) => true,
-        Meaning::Refused(number) => true,
+        Ok(Meaning::Plain { domain, kind, .. }) => domain == chosen || 4 <= kind,
+        Ok(Meaning::Select(_)) => true,
+        Err(_) => true,
     }
 }
 
 // A step taken into place `count`, if it stays; the number of steps taken then.
 fn take_one(
     domain: usize,
-    meaning: Meaning,
+    meaning: Result<Meaning, Refusal>,
     code: u16,
     argument: u64,
     count: usize,
@@ -67,7 +52,7 @@ fn take_one(
 ) -> usize
     requires count_in_bounds { count < length codes.old }
     requires count_in_bounds_2 { count < length arguments.old }
-    ensures { taken_of (record { number = 0; count = result }) codes.new arguments.new
+    ensures { taken_of (Ok result) codes.new arguments.new
         ≡ take_one (keeps_by domain (meaning_is meaning)) code argument count codes.old arguments.old }
 {
     if stays(domain, meaning) {
@@ -89,20 +74,12 @@ fn take_all(
     requires arguments_len { length arguments.now ≡ length codes.now }
     requires kept_codes_len { length kept_codes.old ≡ length codes.now }
     requires kept_arguments_len { length kept_arguments.old ≡ length codes.now }
-    ensures { taken_of (record { number = 0; count = result }) kept_codes.new kept_arguments.new
+    ensures { taken_of (Ok result) kept_codes.new kept_arguments.new
         ≡ purge_of domain codes.now arguments.now kept_codes.old kept_arguments.old }
 {
-    let steps = codes.len();
-    let mut cores = [Core {
-        cs: 0,
-        ds: 0,
-        es: 0,
-    }; MAX_CORES];
+    let mut cores = [Core::default(); MAX_CORES];
     let mut count = 0;
-    let mut i = 0;
-    while i < steps {
-        let code = codes[i];
-        let argument = arguments[i];
+    for (&code, &argument) in codes.iter().zip(arguments) {
         let place = place_of(code);
         let core = cores[place];
         let meaning = meaning_of(core, code, argument);
@@ -116,41 +93,25 @@ fn take_all(
             kept_arguments,
         );
         cores[place] = selectors::record_after(core, meaning);
-        i += 1;
     }
     count
 }
 
-// The struck-out list of a domain, where 32 fresh core records are lent: the steps that stay, first to last, at the front of the two lent tables.
+// The struck-out list of a domain, where 32 fresh core records are lent: the steps that stay, first to last, at the front of the two lent tables, and how
+// many they are.
 pub fn purge_trace(
     domain: usize,
     codes: &[u16],
     arguments: &[u64],
     kept_codes: &mut [u16],
     kept_arguments: &mut [u64],
-) -> Purged
+) -> Result<usize, Refusal>
     ensures { taken_of result kept_codes.new kept_arguments.new
         ≡ purge_of domain codes.now arguments.now kept_codes.old kept_arguments.old }
 {
     let steps = codes.len();
-    if arguments.len() != steps {
-        return Purged {
-            number: 2,
-            count: 0,
-        };
+    if arguments.len() != steps || kept_codes.len() != steps || kept_arguments.len() != steps {
+        return Err(Refusal::Lengths);
     }
-    if kept_codes.len() != steps {
-        return Purged {
-            number: 2,
-            count: 0,
-        };
-    }
-    if kept_arguments.len() != steps {
-        return Purged {
-            number: 2,
-            count: 0,
-        };
-    }
-    let count = take_all(domain, codes, arguments, kept_codes, kept_arguments);
-    Purged { number: 0, count }
+    Ok(take_all(domain, codes, arguments, kept_codes, kept_arguments))
 }

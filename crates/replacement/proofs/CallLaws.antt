@@ -1,15 +1,16 @@
 -- What the public calls answer, by what their tests find: one law a call, for every rule, and for each rule what its crate gives.
 use mathlib.Core.Path.{◌≡◌, refl, sym, ap, ◌∙◌}
-use mathlib.Core.Bool.{Bool, true, false, not, ◌&&◌, ◌||◌, cond}
+use mathlib.Core.Bool.{Bool, true, false, not, ◌&&◌, ◌||◌, cond, and-true}
 use mathlib.Core.List.{[], ◌∷◌}
-use Prim.Native.Nat.{ℕ, zero, suc, ◌^◌, ◌<◌}
+use Prim.Native.Nat.{ℕ, zero, suc, ◌^◌, ◌≤◌, ◌<◌}
 use native.Mathlib.Omega.{arith}
 use lib.Dec.{eqb, ltb}
 use lib.Bits.{bit_or}
-use borrow.Author.Tests.{eqb-true, ne_eqb, ltb-true, lt-ltb}
-use Rattle.waymap.specs.Bits.{bit, word, any, reaches}
+use borrow.Author.Tests.{eqb-true, ne_eqb, lt-ltb}
+use Rattle.std.specs.Prelude.{Result, Ok, Err}
+use Rattle.waymap.specs.Bits.{bit, any, reaches}
 use Rattle.waymap.specs.Ways.{is_ways, Sized}
-use Rattle.waymap.proofs.Booleans.{cases, and_left, and_right, or_none}
+use Rattle.waymap.proofs.Booleans.{cases, and_left, or_none}
 use Rattle.waymap.proofs.WayLaws.{any_bits}
 use Rattle.waymap.proofs.MapLaws.{below_reach, reach_or}
 use Rattle.waymap.proofs.NumberLaws as NumberLaws
@@ -21,8 +22,15 @@ use Rattle.nru.proofs.NruWordLaws as NruLaws
 use Rattle.lru_rule.specs.Calls as Lru
 use Rattle.lru_rule.proofs.CallLaws as LruLaws
 use Rattle.replacement.specs.Rule.{Rule, tree, nru, lru, rule_of}
-use Rattle.replacement.specs.Calls.{in_limits, victim_of, touch_of, fresh_of, own_of, shares_of}
+use Rattle.replacement.specs.Calls.{in_limits, refusing, victim_of, touch_of, fresh_of, own_of, shares_of}
 use Rattle.replacement.specs.Change.{change_of, change_under, change_by}
+use Rattle.replacement.specs.declared.Change.TheVariants.{Stay}
+use Rattle.replacement.specs.Refusal.{number_of}
+use Rattle.replacement.specs.Inside.{known, admitted}
+use Rattle.replacement.specs.declared.Refusal.{Refusal}
+use Rattle.replacement.specs.Answer.{outcome_of}
+use Rattle.replacement.proofs.ReplyLaws.{result_injective}
+use Rattle.replacement.proofs.AdmitLaws.{known_refuses, admitted_refuses}
 use Rattle.replacement.specs.Statements.{ChangeResets}
 
 -- ---- the limits
@@ -35,19 +43,14 @@ module _ (W rule : ℕ) (limits : in_limits W rule ≡ true) where
   pub sized : Sized W
   sized = NumberLaws.sized W ways
 
-  -- a rule within the limits that is neither 0 nor 1 is 2
-  pub two : (rule ≡ 0 → ⊥) → (rule ≡ 1 → ⊥) → rule ≡ 2
-  unfolding in_limits
-  two n m = omega (arith, ltb-true rule 3 (and_right (is_ways W) (ltb rule 3) limits), n, m)
-
-  pub is_lru : (rule ≡ 0 → ⊥) → (rule ≡ 1 → ⊥) → lru W ≡ rule_of rule W
-  is_lru n m = ap (λ (r : ℕ). rule_of r W) (sym (two n m))
-
 pub is_tree : (W rule : ℕ) → rule ≡ 0 → tree W ≡ rule_of rule W
 is_tree W rule z = ap (λ (r : ℕ). rule_of r W) (sym z)
 
 pub is_nru : (W rule : ℕ) → rule ≡ 1 → nru W ≡ rule_of rule W
 is_nru W rule z = ap (λ (r : ℕ). rule_of r W) (sym z)
+
+pub is_lru : (W rule : ℕ) → rule ≡ 2 → lru W ≡ rule_of rule W
+is_lru W rule z = ap (λ (r : ℕ). rule_of r W) (sym z)
 
 -- ---- maps
 
@@ -91,6 +94,38 @@ module _ (W rule a b : ℕ) (limits : in_limits W rule ≡ true) (reach : reache
   pub shares_given : {s : Bool} → s ≡ (rule_of rule W).shares a b → cond s 9 0 ∷ [] ≡ shares_of W rule a b
   unfolding shares_of
   shares_given e = rw (limits, either_reach W a b ∙ ap not reach, e)
+
+-- ---- a call that is not admitted is refused
+
+-- maps that are joined reach W where one of them does
+both_reach : (W a b : ℕ) → (not (reaches W a) && not (reaches W b)) ≡ (not (reaches W (bit_or a b)) && true)
+both_reach W a b = either_reach W a b ∙ sym (and-true (not (reaches W (bit_or a b))))
+
+module _ (W rule x : ℕ) {e : Refusal} where
+  pub victim_refused : (map : ℕ) → Err e ≡ admitted W rule map → refusing x (number_of e) ≡ victim_of W rule x map
+  unfolding victim_of
+  victim_refused map f = admitted_refuses (refusing x) _ W rule map (any 16 (bit map)) refl f
+
+  pub touch_refused : (map way : ℕ) → Err e ≡ admitted W rule map → refusing x (number_of e) ≡ touch_of W rule x map way
+  unfolding touch_of
+  touch_refused map way f = admitted_refuses (refusing x) _ W rule map (ltb way W) refl f
+
+  pub own_refused : (map : ℕ) → Err e ≡ admitted W rule map → refusing x (number_of e) ≡ own_of W rule x map
+  unfolding own_of
+  own_refused map f = admitted_refuses (refusing x) _ W rule map true (sym (and-true (not (reaches W map)))) f
+
+module _ (W rule : ℕ) {e : Refusal} where
+  pub fresh_refused : Err e ≡ known W rule → refusing 0 (number_of e) ≡ fresh_of W rule
+  unfolding fresh_of
+  fresh_refused f = known_refuses (refusing 0) _ W rule f
+
+  pub shares_refused : (a b : ℕ) → Err e ≡ admitted W rule (bit_or a b) → number_of e ∷ [] ≡ shares_of W rule a b
+  unfolding shares_of
+  shares_refused a b f = admitted_refuses (λ n. n ∷ []) _ W rule (bit_or a b) true (both_reach W a b) f
+
+  pub change_refused : (a b : ℕ) → Err e ≡ admitted W rule (bit_or a b) → Stay ≡ change_of W rule a b
+  unfolding change_of
+  change_refused a b f = admitted_refuses (λ n. Stay) _ W rule (bit_or a b) true (both_reach W a b) f
 
 -- ---- Tree-PLRU
 
@@ -157,14 +192,13 @@ module _ (W rule x map : ℕ) (limits : in_limits W rule ≡ true) (reach : reac
       let choice = e ∙ nru_victim W (ways W rule limits) x map h reach in
       victim_given W rule limits (is_nru W rule o) x map reach some (ap (λ (r : Choice). r.way) choice) (ap (λ (r : Choice). r.word) choice)
 
-  pub victim_by_lru : {way : ℕ} → (rule ≡ 0 → ⊥) → (rule ≡ 1 → ⊥) → way ≡ Lru.victim_of W x map
-      → record { answer = 0 ∷ way ∷ []; word = x } ≡ victim_of W rule x map
-  victim_by_lru n o e =
-      victim_given W rule limits (is_lru W rule limits n o) x map reach some (e ∙ lru_victim W (ways W rule limits) x map reach) refl
+  pub victim_by_lru : {way : ℕ} → rule ≡ 2 → way ≡ Lru.victim_of W x map → record { answer = 0 ∷ way ∷ []; word = x } ≡ victim_of W rule x map
+  victim_by_lru t e =
+      victim_given W rule limits (is_lru W rule t) x map reach some (e ∙ lru_victim W (ways W rule limits) x map reach) refl
 
 -- only trees have nodes to share
-pub no_nodes : (rule W a b : ℕ) → (rule ≡ 0 → ⊥) → false ≡ (rule_of rule W).shares a b
-no_nodes zero W a b n = absurd (n refl)
+pub no_nodes : (rule W a b : ℕ) → 1 ≤ rule → false ≡ (rule_of rule W).shares a b
+no_nodes zero W a b n = absurd (omega arith)
 no_nodes (suc zero) W a b n = refl
 no_nodes (suc (suc r)) W a b n = refl
 
@@ -174,6 +208,11 @@ pub shares_by_tree : (W rule m n : ℕ) {s b : Bool} → in_limits W rule ≡ tr
 shares_by_tree W rule m n limits reach z e k =
     shares_given W rule m n limits reach
     (sym k ∙ e ∙ tree_shares W (ways W rule limits) m n reach ∙ ap (λ (R : Rule). R.shares m n) (is_tree W rule z))
+
+-- within the limits there is a fresh word
+pub fresh_is : (W rule : ℕ) {r : Result ℕ Refusal} → in_limits W rule ≡ true → outcome_of 0 r ≡ fresh_of W rule → r ≡ Ok (rule_of rule W).fresh
+unfolding fresh_of
+fresh_is W rule limits e = result_injective 0 0 _ (Ok (rule_of rule W).fresh) (rw limits at e)
 
 -- ---- a change of fill map, worked out first and then done, is the rule's
 

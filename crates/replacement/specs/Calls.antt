@@ -3,26 +3,11 @@ use Rattle.std.specs.Prelude.{Bool, true, false, cond, not, ◌&&◌, List, [], 
 use Rattle.waymap.specs.Bits.{bit, any, reaches}
 use Rattle.waymap.specs.Ways.{is_ways}
 use Rattle.replacement.specs.Rule.{rule_of}
-use Rattle.replacement.specs.declared.Reply.{Reply}
-use Rattle.replacement.specs.declared.Reply.TheVariants.{Way, Done, OutsideLimits, OutOfReach, SharedNode}
-use Rattle.replacement.specs.declared.Outcome.{Outcome}
 
--- Document 01's number and values of each answer: 0 and the values of a call that is not refused, else the number alone. Law
--- `reply_injective`: it tells any two answers apart.
-abbrev pub answer_of : Reply → List ℕ
-answer_of (Way w) = 0 ∷ w ∷ []
-answer_of Done = 0 ∷ []
-answer_of OutsideLimits = 1 ∷ []
-answer_of OutOfReach = 5 ∷ []
-answer_of SharedNode = 9 ∷ []
-
--- An answer with the word that the call leaves.
+-- An answer, document 01's number and values, with the word that the call leaves.
 pub record Result : Type 0 where
   pub answer : List ℕ
   pub word : ℕ
-
-abbrev pub outcome_of : Outcome → Result
-outcome_of r = record { answer = answer_of r.reply; word = r.word }
 
 -- "Rule: 0 Tree-PLRU, 1 NRU", and "1 now admits rule 2".
 unfoldable pub in_limits : ℕ → ℕ → Bool

@@ -2,6 +2,9 @@
 pub mod Rule
 pub mod Isolates
 pub mod Laws
+pub mod Refusal
 pub mod Calls
+pub mod Answer
 pub mod Change
+pub mod Inside
 pub mod Statements

@@ -1,14 +1,16 @@
 -- What is claimed of the replacement rules and their calls, as closed statements. The theorem of each has its name in small letters, stands in proofs/,
 -- and is of exactly that type; those of `RuleLaws` and `RuleIsolates` are `laws` and `isolates`.
-use Rattle.std.specs.Prelude.{◌≡◌, true, false, ℕ, ◌^◌, ◌≤◌, ◌<◌}
+use Rattle.std.specs.Prelude.{◌≡◌, true, false, ℕ, ◌^◌, ◌≤◌, ◌<◌, Result}
 use Rattle.waymap.specs.Bits.{reaches}
 use Rattle.replacement.specs.Rule.{tree, nru, lru, rule_of}
 use Rattle.replacement.specs.Isolates.{Isolates}
 use Rattle.replacement.specs.Laws.{Laws}
-use Rattle.replacement.specs.Calls.{answer_of, in_limits, outcome_of}
+use Rattle.nru.specs.declared.Choice.{Choice}
+use Rattle.replacement.specs.Calls.{in_limits}
+use Rattle.replacement.specs.Refusal.{number_of}
+use Rattle.replacement.specs.Answer.{answer_of, outcome_of, choice_of}
 use Rattle.replacement.specs.Change.{change_of, change_by}
-use Rattle.replacement.specs.declared.Outcome.{Outcome}
-use Rattle.replacement.specs.declared.Reply.{Reply}
+use Rattle.replacement.specs.declared.Refusal.{Refusal}
 
 -- Every rule that a cache may have meets the laws of `Laws`, for every W up to 16. All that stands above takes its laws from here.
 abbrev pub RuleLaws : Type 0
@@ -42,9 +44,16 @@ ChangeResets =
     (W rule x old new : ℕ) → old < 2 ^ 16 → new < 2 ^ 16 → in_limits W rule ≡ true → reaches W old ≡ false → reaches W new ≡ false
     → change_by (change_of W rule old new) x ≡ (rule_of rule W).reset old new x
 
--- What the contracts equate tells any two of the code's answers apart, and so settles each whole.
+-- What the contracts equate tells any two of the code's refusals and answers apart, and so settles each whole; an answer that is given, whatever word
+-- each call was lent.
+abbrev pub NumberInjective : Type 0
+NumberInjective = (r s : Refusal) → number_of r ≡ number_of s → r ≡ s
+
 abbrev pub ReplyInjective : Type 0
-ReplyInjective = (p q : Reply) → answer_of p ≡ answer_of q → p ≡ q
+ReplyInjective = (p q : Result (Unit {0}) Refusal) → answer_of p ≡ answer_of q → p ≡ q
 
 abbrev pub ResultInjective : Type 0
-ResultInjective = (p q : Outcome) → outcome_of p ≡ outcome_of q → p ≡ q
+ResultInjective = (v w : ℕ) (p q : Result ℕ Refusal) → outcome_of v p ≡ outcome_of w q → p ≡ q
+
+abbrev pub ChoiceInjective : Type 0
+ChoiceInjective = (v w : ℕ) (p q : Result Choice Refusal) → choice_of v p ≡ choice_of w q → p ≡ q

@@ -1,18 +1,21 @@
 // The replacement rules, Tree-PLRU, NRU and true LRU, without any cache above them: a word and a map give a victim and the word before its touch;
-// a word, a map and a touched way give a new word.
+// a word, a map and a touched way give a new word. The rule is a number of the call, as document 01 has it: nothing takes a rule as a type, so that
+// no trait stands over the three crates.
 #![tactic(auto)]
 
 ghost use Rattle.std.specs.Prelude.{◌≡◌};
-ghost use Rattle.replacement.specs.Calls.{answer_of, outcome_of, in_limits, victim_of, touch_of, fresh_of, own_of, shares_of};
+ghost use Rattle.replacement.specs.Refusal.{number_of};
+ghost use Rattle.replacement.specs.Calls.{in_limits, victim_of, touch_of, fresh_of, own_of, shares_of};
+ghost use Rattle.replacement.specs.Answer.{answer_of, outcome_of, choice_of};
 ghost use Rattle.replacement.specs.Change.{change_of, change_by};
+ghost use Rattle.replacement.specs.Inside.{known, admitted};
 
 use lru_rule::Moves;
+pub use nru::Choice;
 
-// The answer of a call: a way, or that the call is done, or why it is refused.
-#[derive(Clone, Copy)]
-pub enum Reply {
-    Way(usize),
-    Done,
+// Why a call is refused: document 01's numbers.
+#[derive(Clone, Copy, PartialEq, Eq)]
+pub enum Refusal {
     // The number of ways or the rule is outside the limits.
     OutsideLimits,
     // A map or a touched way reaches the number of ways, or a victim is wanted of an empty map.
@@ -21,11 +24,17 @@ pub enum Reply {
     SharedNode,
 }
 
-// The answer, and the word that the call leaves: the given one where it is refused.
-#[derive(Clone, Copy)]
-pub struct Outcome {
-    pub reply: Reply,
-    pub word: u64,
+impl Refusal {
+    // The number by which it is told.
+    pub fn number(self) -> usize
+        ensures { result ≡ number_of self }
+    {
+        match self {
+            Refusal::OutsideLimits => 1,
+            Refusal::OutOfReach => 5,
+            Refusal::SharedNode => 9,
+        }
+    }
 }
 
 // What a change of fill map does to a word.
@@ -41,94 +50,79 @@ pub enum Change {
     Stay,
 }
 
+// The rule that a number names.
+#[derive(Clone, Copy)]
+enum Rule {
+    Tree,
+    Nru,
+    Lru,
+}
+
 // Whether the number of ways and the rule are within the limits.
 pub fn in_limits(ways: usize, rule: usize) -> bool
     ensures { result ≡ in_limits ways rule }
 {
-    if waymap::is_ways(ways) {
-        return rule < 3;
+    waymap::is_ways(ways) && rule < 3
+}
+
+// The rule of a call, where it and the number of ways are within the limits.
+fn known(ways: usize, rule: usize) -> Result<Rule, Refusal>
+    ensures { result ≡ known ways rule }
+{
+    if !in_limits(ways, rule) {
+        return Err(Refusal::OutsideLimits);
     }
-    false
+    Ok(match rule {
+        0 => Rule::Tree,
+        1 => Rule::Nru,
+        _ => Rule::Lru,
+    })
+}
+
+// The rule of a call with a map, which has no way of the number of ways or higher.
+fn admitted(ways: usize, rule: usize, map: u16) -> Result<Rule, Refusal>
+    ensures { result ≡ admitted ways rule map }
+{
+    let rule = known(ways, rule)?;
+    if !waymap::fits(map, ways) {
+        return Err(Refusal::OutOfReach);
+    }
+    Ok(rule)
 }
 
 // The victim of a word and a fill map, with the word before its touch.
-pub fn victim(ways: usize, rule: usize, word: u64, map: u16) -> Outcome
-    ensures { outcome_of result ≡ victim_of ways rule word map }
+pub fn victim(ways: usize, rule: usize, word: u64, map: u16) -> Result<Choice, Refusal>
+    ensures { choice_of word result ≡ victim_of ways rule word map }
 {
-    if in_limits(ways, rule) {} else {
-        return Outcome {
-            reply: Reply::OutsideLimits,
-            word,
-        };
-    }
+    let rule = admitted(ways, rule, map)?;
     if map == 0 {
-        return Outcome {
-            reply: Reply::OutOfReach,
+        return Err(Refusal::OutOfReach);
+    }
+    match rule {
+        Rule::Tree => Ok(Choice {
+            way: tree::victim(ways, word, map),
             word,
-        };
-    }
-    if waymap::fits(map, ways) {} else {
-        return Outcome {
-            reply: Reply::OutOfReach,
+        }),
+        Rule::Nru => Ok(nru::victim(word, map)),
+        Rule::Lru => Ok(Choice {
+            way: lru_rule::victim(ways, word, map),
             word,
-        };
-    }
-    if rule == 0 {
-        return Outcome {
-            reply: Reply::Way(tree::victim(ways, word, map)),
-            word,
-        };
-    }
-    if rule == 1 {
-        let choice = nru::victim(word, map);
-        return Outcome {
-            reply: Reply::Way(choice.way),
-            word: choice.word,
-        };
-    }
-    Outcome {
-        reply: Reply::Way(lru_rule::victim(ways, word, map)),
-        word,
+        }),
     }
 }
 
 // The word after a touch of a way. A way outside the map, or an empty map, is not refused.
-pub fn touch(ways: usize, rule: usize, word: u64, map: u16, way: usize) -> Outcome
-    ensures { outcome_of result ≡ touch_of ways rule word map way }
+pub fn touch(ways: usize, rule: usize, word: u64, map: u16, way: usize) -> Result<u64, Refusal>
+    ensures { outcome_of word result ≡ touch_of ways rule word map way }
 {
-    if in_limits(ways, rule) {} else {
-        return Outcome {
-            reply: Reply::OutsideLimits,
-            word,
-        };
-    }
-    if waymap::fits(map, ways) {} else {
-        return Outcome {
-            reply: Reply::OutOfReach,
-            word,
-        };
-    }
+    let rule = admitted(ways, rule, map)?;
     if ways <= way {
-        return Outcome {
-            reply: Reply::OutOfReach,
-            word,
-        };
+        return Err(Refusal::OutOfReach);
     }
-    if rule == 0 {
-        return Outcome {
-            reply: Reply::Done,
-            word: tree::touch(ways, word, map, way),
-        };
-    }
-    if rule == 1 {
-        return Outcome {
-            reply: Reply::Done,
-            word: nru::touch(word, map, way),
-        };
-    }
-    Outcome {
-        reply: Reply::Done,
-        word: lru_rule::touch(ways, word, map, way),
+    match rule {
+        Rule::Tree => Ok(tree::touch(ways, word, map, way)),
+        Rule::Nru => Ok(nru::touch(word, map, way)),
+        Rule::Lru => Ok(lru_rule::touch(ways, word, map, way)),
     }
 }
 
@@ -136,24 +130,17 @@ pub fn touch(ways: usize, rule: usize, word: u64, map: u16, way: usize) -> Outco
 pub fn change_of(ways: usize, rule: usize, old: u16, new: u16) -> Change
     ensures { result ≡ change_of ways rule old new }
 {
-    if in_limits(ways, rule) {} else {
+    let Ok(rule) = admitted(ways, rule, old | new) else {
         return Change::Stay;
-    }
-    if waymap::fits(old | new, ways) {} else {
-        return Change::Stay;
-    }
-    if rule == 0 {
-        return Change::Clear(tree::change(ways, old, new));
-    }
-    if rule == 1 {
-        return Change::Raise(nru::change(old, new));
-    }
-    if old == new {
-        return Change::Stay;
-    }
-    Change::Age {
-        ways,
-        moves: lru_rule::change(old, new),
+    };
+    match rule {
+        Rule::Tree => Change::Clear(tree::change(ways, old, new)),
+        Rule::Nru => Change::Raise(nru::change(old, new)),
+        Rule::Lru if old == new => Change::Stay,
+        Rule::Lru => Change::Age {
+            ways,
+            moves: lru_rule::change(old, new),
+        },
     }
 }
 
@@ -169,83 +156,35 @@ pub fn changed(change: Change, word: u64) -> u64
     }
 }
 
-// The word of a fresh cache, 0 where the call is refused.
-pub fn fresh(ways: usize, rule: usize) -> Outcome
-    ensures { outcome_of result ≡ fresh_of ways rule }
+// The word of a fresh cache.
+pub fn fresh(ways: usize, rule: usize) -> Result<u64, Refusal>
+    ensures { outcome_of 0 result ≡ fresh_of ways rule }
 {
-    if in_limits(ways, rule) {} else {
-        return Outcome {
-            reply: Reply::OutsideLimits,
-            word: 0,
-        };
-    }
-    if rule == 0 {
-        return Outcome {
-            reply: Reply::Done,
-            word: 0,
-        };
-    }
-    if rule == 1 {
-        return Outcome {
-            reply: Reply::Done,
-            word: nru::fresh(ways),
-        };
-    }
-    Outcome {
-        reply: Reply::Done,
-        word: lru_rule::fresh(ways),
+    match known(ways, rule)? {
+        Rule::Tree => Ok(0),
+        Rule::Nru => Ok(nru::fresh(ways)),
+        Rule::Lru => Ok(lru_rule::fresh(ways)),
     }
 }
 
 // The own part of a word for a fill map: the bits that the map's choices go by, and zero elsewhere.
-pub fn own(ways: usize, rule: usize, word: u64, map: u16) -> Outcome
-    ensures { outcome_of result ≡ own_of ways rule word map }
+pub fn own(ways: usize, rule: usize, word: u64, map: u16) -> Result<u64, Refusal>
+    ensures { outcome_of word result ≡ own_of ways rule word map }
 {
-    if in_limits(ways, rule) {} else {
-        return Outcome {
-            reply: Reply::OutsideLimits,
-            word,
-        };
-    }
-    if waymap::fits(map, ways) {} else {
-        return Outcome {
-            reply: Reply::OutOfReach,
-            word,
-        };
-    }
-    if rule == 0 {
-        return Outcome {
-            reply: Reply::Done,
-            word: tree::own(ways, word, map),
-        };
-    }
-    if rule == 1 {
-        return Outcome {
-            reply: Reply::Done,
-            word: nru::own(word, map),
-        };
-    }
-    Outcome {
-        reply: Reply::Done,
-        word: lru_rule::own(ways, word, map),
+    match admitted(ways, rule, map)? {
+        Rule::Tree => Ok(tree::own(ways, word, map)),
+        Rule::Nru => Ok(nru::own(word, map)),
+        Rule::Lru => Ok(lru_rule::own(ways, word, map)),
     }
 }
 
 // Whether two domains may have these fill maps.
-pub fn conflict(ways: usize, rule: usize, map: u16, other: u16) -> Reply
+pub fn conflict(ways: usize, rule: usize, map: u16, other: u16) -> Result<(), Refusal>
     ensures { answer_of result ≡ shares_of ways rule map other }
 {
-    if in_limits(ways, rule) {} else {
-        return Reply::OutsideLimits;
+    match admitted(ways, rule, map | other)? {
+        Rule::Tree if tree::shares(ways, map, other) => Err(Refusal::SharedNode),
+        Rule::Tree => Ok(()),
+        Rule::Nru | Rule::Lru => Ok(()),
     }
-    if waymap::fits(map | other, ways) {} else {
-        return Reply::OutOfReach;
-    }
-    if rule != 0 {
-        return Reply::Done;
-    }
-    if tree::shares(ways, map, other) {
-        return Reply::SharedNode;
-    }
-    Reply::Done
 }

@@ -9,7 +9,7 @@ use lib.Dec.{eqb}
 use lib.ListN.{length, get_or, set, length-set}
 use lib.Seq.{get_or-set_other}
 use borrow.Author.Tests.{ne_eqb}
-use Rattle.waymap.specs.Bits.{bit, word, any, put}
+use Rattle.waymap.specs.Bits.{bit, any, put}
 use Rattle.waymap.specs.Encoder.{encode}
 use Rattle.waymap.proofs.Booleans.{cases, and_left}
 use Rattle.waymap.proofs.WordLaws.{bit_word_in}

@@ -2,7 +2,8 @@
 use mathlib.Core.Path.{◌≡◌, ap, ap₂, ◌∙◌}
 use mathlib.Core.Bool.{Bool, true, ◌&&◌}
 use mathlib.Core.List.{List}
-use Prim.Native.Nat.{ℕ, ◌≤◌, ◌<◌}
+use Prim.Native.Nat.{ℕ, ◌<◌}
+use native.Mathlib.Omega.{arith}
 use lib.Dec.{eqb}
 use lib.ListN.{length}
 use Rattle.waymap.specs.Bits.{bit}
@@ -27,9 +28,9 @@ module _ (p : Maps) (tag : ℕ) (tags : List ℕ) (l : Lines) (is : is_ways (len
   unfolding lookup_of
   look_hit f h = rw (is, ← e, hit_below tags l.valid read.hit tag (rw (← f) h), f)
 
-  pub look_absent : {way : ℕ} → way ≡ hit_way (row_of tags l) read.hit tag → length tags ≤ way → Absent ≡ lookup_of p tag (row_of tags l)
+  pub look_absent : length tags ≡ hit_way (row_of tags l) read.hit tag → Absent ≡ lookup_of p tag (row_of tags l)
   unfolding lookup_of
-  look_absent f h = rw (is, ← e, miss_above tags l.valid read.hit tag (rw (← f) h))
+  look_absent f = rw (is, ← e, miss_above tags l.valid read.hit tag (omega arith))
 
   pub look_visited : {n : ℕ} → n ≡ visited (row_of tags l) read.hit tag → n ≡ visited_of p tag (row_of tags l)
   unfolding visited_of

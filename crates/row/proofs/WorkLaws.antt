@@ -3,11 +3,12 @@ use mathlib.Core.Path.{◌≡◌, sym, ap, ◌∙◌}
 use mathlib.Core.Bool.{Bool, true, false, not, ◌&&◌}
 use mathlib.Core.List.{List}
 use Prim.Native.Nat.{ℕ, ◌-◌, ◌^◌, ◌≤◌, ◌<◌}
+use native.Mathlib.Omega.{arith}
 use lib.Dec.{ltb}
 use lib.Bits.{bit_and}
 use lib.ListN.{length, get_or, set}
 use borrow.Author.Tests.{ne_eqb, lt-ltb, le-ltb}
-use Rattle.waymap.specs.Bits.{bit, word, any}
+use Rattle.waymap.specs.Bits.{bit, any}
 use Rattle.waymap.specs.Encoder.{encode}
 use Rattle.waymap.proofs.Booleans.{cases}
 use Rattle.waymap.proofs.BitLaws.{bit_and_lem, bit_not}
@@ -22,7 +23,7 @@ use Rattle.row.specs.Inside.{Usable, ChoiceOf, untagged, lines_of, miss_at}
 use Rattle.policy.specs.declared.Maps.{Maps}
 use Rattle.row.specs.declared.Lines.{Lines}
 use Rattle.command.specs.declared.Answer.TheVariants.{Hit, Fill, Evict, Pass, Flush, Absent}
-use Rattle.row.specs.declared.rules.Choice.{Choice}
+use Rattle.nru.specs.declared.Choice.{Choice}
 use Rattle.row.proofs.RuleLaws.{most_ways}
 use Rattle.lookup.proofs.LookupLaws.{hit_below, miss_above}
 
@@ -43,16 +44,16 @@ module _ (rule tag : ℕ) (store : Bool) (tags : List ℕ) (l : Lines) where
       let found : is_hit row p.hit tag ≡ true = hit_below tags l.valid p.hit tag (rw (← e) h) in
       rw (found, f, ← e)
 
-  pub serve_pass : (p : Maps) {way : ℕ} → way ≡ hit_way row p.hit tag → length tags ≤ way → any (length tags) (bit p.fill) ≡ false
+  pub serve_pass : (p : Maps) → length tags ≡ hit_way row p.hit tag → any (length tags) (bit p.fill) ≡ false
       → record { answer = Pass; row = row } ≡ access R p tag store row
   unfolding access access_by
-  serve_pass p e h f = rw (miss_above tags l.valid p.hit tag (rw (← e) h), f)
+  serve_pass p e f = rw (miss_above tags l.valid p.hit tag (omega arith), f)
 
-  pub serve_miss : (p : Maps) {way : ℕ} {q : Effect} → way ≡ hit_way row p.hit tag → length tags ≤ way → any (length tags) (bit p.fill) ≡ true
+  pub serve_miss : (p : Maps) {q : Effect} → length tags ≡ hit_way row p.hit tag → any (length tags) (bit p.fill) ≡ true
       → q ≡ miss_at R p.fill tag store row → q ≡ access R p tag store row
   unfolding access access_by
-  serve_miss p e h f g =
-      g ∙ rw (miss_above tags l.valid p.hit tag (rw (← e) h), f)
+  serve_miss p e f g =
+      g ∙ rw (miss_above tags l.valid p.hit tag (omega arith), f)
       (cases (any (length tags) (vacant row p.fill)) (λ t. rw t) (λ t. rw t))
 
   -- the invalid ways of the fill map, as a map
@@ -102,10 +103,9 @@ module _ (p : Maps) (tag : ℕ) (tags : List ℕ) (l : Lines) where
   unfolding flush flush_at
   flush_hit e h d f = rw (hit_below tags l.valid p.hit tag (rw (← e) h), f, d, ← e)
 
-  pub flush_absent : {way : ℕ} → way ≡ hit_way (row_of tags l) p.hit tag → length tags ≤ way
-      → record { answer = Absent; row = row_of tags l } ≡ flush p tag (row_of tags l)
+  pub flush_absent : length tags ≡ hit_way (row_of tags l) p.hit tag → record { answer = Absent; row = row_of tags l } ≡ flush p tag (row_of tags l)
   unfolding flush flush_at
-  flush_absent e h = rw (miss_above tags l.valid p.hit tag (rw (← e) h))
+  flush_absent e = rw (miss_above tags l.valid p.hit tag (omega arith))
 
 -- ---- a fill map within the ways
 

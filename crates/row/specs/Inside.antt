@@ -6,7 +6,7 @@ use Rattle.replacement.specs.Calls.{in_limits}
 use Rattle.row.specs.Row.{Row, Effect, ways, vacant, access_by}
 use Rattle.row.specs.Calls.{row_of}
 use Rattle.row.specs.declared.Lines.{Lines}
-use Rattle.row.specs.declared.rules.Choice.{Choice}
+use Rattle.nru.specs.declared.Choice.{Choice}
 
 -- A number of ways and a rule within the limits, and a map within the ways.
 pub record Usable (W rule fill : ℕ) : Type 0 where

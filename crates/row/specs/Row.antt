@@ -1,6 +1,6 @@
 -- The rules on one set: its tags, its valid and dirty map and its replacement word, and the maps of the domain that steps.
 use Rattle.std.specs.Prelude.{Bool, true, false, cond, not, ◌&&◌, List, ℕ, length, get_or, set}
-use Rattle.waymap.specs.Bits.{Bits, bit, word, any, count, put}
+use Rattle.waymap.specs.Bits.{Bits, bit, any, count, put}
 use Rattle.waymap.specs.Encoder.{encode}
 use Rattle.replacement.specs.Rule.{Rule}
 use Rattle.policy.specs.declared.Maps.{Maps}

@@ -41,7 +41,7 @@ pub fn lookup(tags: &[u64], lines: Lines, maps: Maps, tag: u64) -> Looked
     ensures visited_value { result.visited ≡ visited_of maps tag (row_of tags.now lines) }
 {
     let ways = tags.len();
-    if waymap::is_ways(ways) {} else {
+    if !waymap::is_ways(ways) {
         return Looked {
             answer: Answer::Refused(1),
             visited: 0,
@@ -49,17 +49,16 @@ pub fn lookup(tags: &[u64], lines: Lines, maps: Maps, tag: u64) -> Looked
     }
     let read = policy::as_read(ways, maps);
     let found = lookup::find(tags, lines.valid, read.hit, tag);
-    let way = found.way;
     let visited = found.visited;
-    if way < ways {
-        return Looked {
+    match found.way {
+        Some(way) => Looked {
             answer: Answer::Hit(way),
             visited,
-        };
-    }
-    Looked {
-        answer: Answer::Absent,
-        visited,
+        },
+        None => Looked {
+            answer: Answer::Absent,
+            visited,
+        },
     }
 }
 
@@ -75,7 +74,7 @@ pub fn access(
     ensures { told (effect_of result tags.new) ≡ told (access_of rule maps tag store (row_of tags.old lines)) }
 {
     let ways = tags.len();
-    if replacement::in_limits(ways, rule) {} else {
+    if !replacement::in_limits(ways, rule) {
         return Done {
             answer: Answer::Refused(1),
             lines,
@@ -84,20 +83,17 @@ pub fn access(
     let read = policy::as_read(ways, maps);
     let fill = read.fill;
     let found = lookup::find(tags, lines.valid, read.hit, tag);
-    let way = found.way;
-    if way < ways {
-        return Done {
+    match found.way {
+        Some(way) => Done {
             answer: Answer::Hit(way),
             lines: update::hit(lines, ways, rule, fill, store, way),
-        };
-    }
-    if fill == 0 {
-        return Done {
+        },
+        None if fill == 0 => Done {
             answer: Answer::Pass,
             lines,
-        };
+        },
+        None => work::bring(tags, lines, rule, fill, tag, store),
     }
-    work::bring(tags, lines, rule, fill, tag, store)
 }
 
 // A flush.
@@ -105,7 +101,7 @@ pub fn flush(tags: &[u64], lines: Lines, maps: Maps, tag: u64) -> Done
     ensures { told (effect_of result tags.now) ≡ told (flush_of maps tag (row_of tags.now lines)) }
 {
     let ways = tags.len();
-    if waymap::is_ways(ways) {} else {
+    if !waymap::is_ways(ways) {
         return Done {
             answer: Answer::Refused(1),
             lines,
@@ -113,17 +109,18 @@ pub fn flush(tags: &[u64], lines: Lines, maps: Maps, tag: u64) -> Done
     }
     let read = policy::as_read(ways, maps);
     let found = lookup::find(tags, lines.valid, read.hit, tag);
-    let way = found.way;
-    if way < ways {
-        let dirty = waymap::has(lines.dirty, way);
-        return Done {
-            answer: Answer::Flush { way, dirty },
+    match found.way {
+        Some(way) => Done {
+            answer: Answer::Flush {
+                way,
+                dirty: waymap::has(lines.dirty, way),
+            },
             lines: update::flushed(lines, way),
-        };
-    }
-    Done {
-        answer: Answer::Absent,
-        lines,
+        },
+        None => Done {
+            answer: Answer::Absent,
+            lines,
+        },
     }
 }
 

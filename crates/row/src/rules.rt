@@ -4,39 +4,22 @@ ghost use Rattle.waymap.specs.Bits.{bit, any};
 ghost use Rattle.replacement.specs.Rule.{rule_of};
 ghost use Rattle.row.specs.Inside.{Usable, ChoiceOf};
 
-use replacement::Reply;
+use replacement::Choice;
 
-// A victim, and the word before its touch.
-#[derive(Clone, Copy)]
-pub struct Choice {
-    pub way: usize,
-    pub word: u64,
-}
-
-// The word after a touch.
+// The word after a touch: within the limits none is refused.
 pub fn touched(ways: usize, rule: usize, word: u64, fill: u16, way: usize) -> u64
     requires usable { Usable ways rule fill }
     requires way_lt_ways { way < ways }
     ensures { result ≡ (rule_of rule ways).touch fill way word }
 {
-    let done = replacement::touch(ways, rule, word, fill, way);
-    done.word
+    replacement::touch(ways, rule, word, fill, way).unwrap()
 }
 
-// The victim of a map that is not empty.
+// The victim of a map that is not empty: within the limits there is one.
 pub fn chosen(ways: usize, rule: usize, word: u64, fill: u16) -> Choice
     requires usable { Usable ways rule fill }
     requires fill_value { any ways (bit fill) ≡ true }
     ensures { ChoiceOf ways rule fill word result }
 {
-    let done = replacement::victim(ways, rule, word, fill);
-    let reply = done.reply;
-    let before = done.word;
-    match reply {
-        Reply::Way(way) => Choice { way, word: before },
-        _ => Choice {
-            way: 0,
-            word: before,
-        },
-    }
+    replacement::victim(ways, rule, word, fill).unwrap()
 }

@@ -4,23 +4,16 @@ ghost use Rattle.row.specs.Calls.{flushes as flushes_line, stores as stores_line
 
 use command::LineUse;
 
-// Whether a line is flushed, and whether it is stored to.
+// Whether a line is flushed.
 pub fn flushes(usage: LineUse) -> bool
     ensures { result ≡ flushes_line usage }
 {
-    match usage {
-        LineUse::Load => false,
-        LineUse::Store => false,
-        LineUse::Flush => true,
-    }
+    matches!(usage, LineUse::Flush)
 }
 
+// Whether it is stored to.
 pub fn stores(usage: LineUse) -> bool
     ensures { result ≡ stores_line usage }
 {
-    match usage {
-        LineUse::Load => false,
-        LineUse::Store => true,
-        LineUse::Flush => false,
-    }
+    matches!(usage, LineUse::Store)
 }

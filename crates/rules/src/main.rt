@@ -10,131 +10,33 @@
 // gives the one line `refused` and its number. A failed read or write is told on standard error.
 #![tactic(auto)]
 
-use replacement::{Outcome, Reply};
-use std::io::Stdout;
+use replacement::Refusal;
+use std::io::{Result, Stdout, Write};
+use std::result;
 
-// Writes a space and a number, and answers whether both were written.
-fn show_field(stdout: &mut Stdout, n: u64) -> bool {
-    if streams::write_all(stdout, b" ") {
-        return streams::print_decimal(stdout, n);
-    }
-    false
-}
-
-// Writes the last number of a line, and the line's end.
-fn show_last(stdout: &mut Stdout, n: u64) -> bool {
-    if show_field(stdout, n) {
-        return streams::write_all(stdout, b"\n");
-    }
-    false
-}
-
-// Ends a line with the number of a refusal.
-fn show_refused(stdout: &mut Stdout, number: u64) -> bool {
-    if streams::write_all(stdout, b" refused") {
-        return show_last(stdout, number);
-    }
-    false
-}
-
-// Ends a line with a way and a word.
-fn show_choice(stdout: &mut Stdout, way: usize, word: u64) -> bool {
-    if show_field(stdout, way as u64) {
-        return show_last(stdout, word);
-    }
-    false
-}
-
-// Ends a line with what a call gave: its way, if it answers one, and its word, or the number of its refusal.
-fn show_outcome(stdout: &mut Stdout, outcome: Outcome) -> bool {
-    let reply = outcome.reply;
-    match reply {
-        Reply::Way(way) => show_choice(stdout, way, outcome.word),
-        Reply::Done => show_last(stdout, outcome.word),
-        Reply::OutsideLimits => show_refused(stdout, 1),
-        Reply::OutOfReach => show_refused(stdout, 5),
-        Reply::SharedNode => show_refused(stdout, 9),
+// Ends a line with the word that a call gave, or the number of its refusal.
+fn show_word(stdout: &mut Stdout, answer: result::Result<u64, Refusal>) -> Result<()> {
+    match answer {
+        Ok(word) => writeln!(stdout, " {word}"),
+        Err(refusal) => writeln!(stdout, " refused {}", refusal.number()),
     }
 }
 
-// The number of a refusal, 0 where there is none.
-fn number_of(reply: Reply) -> u64 {
-    match reply {
-        Reply::OutsideLimits => 1,
-        Reply::OutOfReach => 5,
-        Reply::SharedNode => 9,
-        _ => 0,
+// Writes the victim of a word, and the word before its touch.
+fn show_victim(stdout: &mut Stdout, ways: usize, rule: usize, word: u64, map: u16) -> Result<()> {
+    match replacement::victim(ways, rule, word, map) {
+        Ok(choice) => writeln!(stdout, "victim {} {}", choice.way, choice.word),
+        Err(refusal) => writeln!(stdout, "victim refused {}", refusal.number()),
     }
-}
-
-fn show_fresh(stdout: &mut Stdout, ways: usize, rule: usize) -> bool {
-    if streams::write_all(stdout, b"fresh") {
-        return show_outcome(stdout, replacement::fresh(ways, rule));
-    }
-    false
-}
-
-fn show_own(stdout: &mut Stdout, ways: usize, rule: usize, word: u64, map: u16) -> bool {
-    if streams::write_all(stdout, b"own") {
-        return show_outcome(stdout, replacement::own(ways, rule, word, map));
-    }
-    false
-}
-
-fn show_victim(stdout: &mut Stdout, ways: usize, rule: usize, word: u64, map: u16) -> bool {
-    if streams::write_all(stdout, b"victim") {
-        return show_outcome(stdout, replacement::victim(ways, rule, word, map));
-    }
-    false
-}
-
-fn show_touch(
-    stdout: &mut Stdout,
-    ways: usize,
-    rule: usize,
-    word: u64,
-    map: u16,
-    way: usize,
-) -> bool {
-    if streams::write_all(stdout, b"touch") {
-        if show_field(stdout, way as u64) {
-            return show_outcome(stdout, replacement::touch(ways, rule, word, map, way));
-        }
-    }
-    false
 }
 
 // Writes the touches of all ways, and of the first number that is no way.
-fn show_touches(stdout: &mut Stdout, ways: usize, rule: usize, word: u64, map: u16) -> bool {
+fn show_touches(stdout: &mut Stdout, ways: usize, rule: usize, word: u64, map: u16) -> Result<()> {
     for way in 0..=ways {
-        if show_touch(stdout, ways, rule, word, map, way) {} else {
-            return false;
-        }
+        write!(stdout, "touch {way}")?;
+        show_word(stdout, replacement::touch(ways, rule, word, map, way))?;
     }
-    true
-}
-
-fn show_change(
-    stdout: &mut Stdout,
-    ways: usize,
-    rule: usize,
-    word: u64,
-    old: u16,
-    map: u16,
-) -> bool {
-    let change = replacement::change_of(ways, rule, old, map);
-    if streams::write_all(stdout, b"change") {
-        return show_last(stdout, replacement::changed(change, word));
-    }
-    false
-}
-
-fn show_conflict(stdout: &mut Stdout, ways: usize, rule: usize, old: u16, map: u16) -> bool {
-    let reply = replacement::conflict(ways, rule, old, map);
-    if streams::write_all(stdout, b"conflict") {
-        return show_last(stdout, number_of(reply));
-    }
-    false
+    Ok(())
 }
 
 // Writes what the calls with a word and a map give, and those with the map before it, `old`, too.
@@ -145,68 +47,45 @@ fn show_entry(
     word: u64,
     old: u16,
     map: u16,
-) -> bool {
-    if show_own(stdout, ways, rule, word, map) {} else {
-        return false;
-    }
-    if show_victim(stdout, ways, rule, word, map) {} else {
-        return false;
-    }
-    if show_touches(stdout, ways, rule, word, map) {} else {
-        return false;
-    }
-    if show_change(stdout, ways, rule, word, old, map) {
-        return show_conflict(stdout, ways, rule, old, map);
-    }
-    false
+) -> Result<()> {
+    write!(stdout, "own")?;
+    show_word(stdout, replacement::own(ways, rule, word, map))?;
+    show_victim(stdout, ways, rule, word, map)?;
+    show_touches(stdout, ways, rule, word, map)?;
+    let change = replacement::change_of(ways, rule, old, map);
+    writeln!(stdout, "change {}", replacement::changed(change, word))?;
+    let number = match replacement::conflict(ways, rule, old, map) {
+        Ok(()) => 0,
+        Err(refusal) => refusal.number(),
+    };
+    writeln!(stdout, "conflict {number}")
 }
 
-// Writes the lines of all entries, up to the first that cannot be written, and answers whether all were.
-fn show_entries(stdout: &mut Stdout, file: &[u8], ways: usize, rule: usize) -> bool {
+// Writes the lines of all entries, up to the first that cannot be written.
+fn show_entries(stdout: &mut Stdout, file: &[u8], ways: usize, rule: usize) -> Result<()> {
     let n = tracefile::steps(file);
-    let mut old = 0u16;
+    let mut old = 0;
     for i in 0..n {
         let entry = tracefile::command_at(file, n, i);
         let map = command::code_of(entry);
-        if show_entry(stdout, ways, rule, entry.argument, old, map) {} else {
-            return false;
-        }
+        show_entry(stdout, ways, rule, entry.argument, old, map)?;
         old = map;
     }
-    true
+    Ok(())
 }
 
-fn show_file(stdout: &mut Stdout, file: &[u8]) -> bool {
-    let number = tracefile::refusal(file);
-    if number != 0 {
-        if streams::write_all(stdout, b"refused") {
-            return show_last(stdout, number as u64);
-        }
-        return false;
+fn show_file(stdout: &mut Stdout, file: &[u8]) -> Result<()> {
+    if let Err(refusal) = tracefile::refusal(file) {
+        return writeln!(stdout, "refused {}", refusal.number());
     }
     let g = geometry::named(file);
-    if show_fresh(stdout, g.ways, g.rule) {
-        return show_entries(stdout, file, g.ways, g.rule);
-    }
-    false
+    write!(stdout, "fresh")?;
+    show_word(stdout, replacement::fresh(g.ways, g.rule))?;
+    show_entries(stdout, file, g.ways, g.rule)
 }
 
 fn main(rt: HostRuntime) {
-    let mut file = [0u8; 40969];
-    let got = streams::read_file(&mut rt.stdin(), &mut file);
-    let count = got.count;
-    if got.whole {
-        if show_file(&mut rt.stdout(), &file[..count]) {
-            return;
-        }
-        streams::write_all(
-            &mut rt.stderr(),
-            b"rules: standard output could not be written\n",
-        );
-        return;
+    if let Err(failure) = streams::show_input(&mut rt.stdin(), &mut rt.stdout(), show_file) {
+        let _ = eprintln!(rt; "rules: {failure}");
     }
-    streams::write_all(
-        &mut rt.stderr(),
-        b"rules: standard input could not be read to its end\n",
-    );
 }

@@ -1,20 +1,22 @@
 -- A run of numbers of n bytes each, taken out of bytes one after the other and put back.
 use mathlib.Core.Path.{◌≡◌, refl, sym, ap, ap₂, ◌∙◌}
-use mathlib.Core.List.{List, [], ◌∷◌, ◌++◌, append_assoc}
-use Prim.Native.Nat.{ℕ, ◌+◌, ◌-◌, ◌*◌, ◌≤◌, ◌<◌}
-use native.Mathlib.Nat.{mul-suc, mul_comm, mul-zero, add-zero}
+use mathlib.Core.List.{List, [], ◌∷◌, ◌++◌, map, append_assoc}
+use Prim.Native.Nat.{ℕ, ◌+◌, ◌-◌, ◌*◌, ◌/◌, ◌≤◌, ◌<◌}
+use native.Mathlib.Nat.{zero-add, le_refl, mul-suc, mul_comm, mul-zero, add-zero, mul-le-mul, le-div_iff_mul-le, div-lt_iff_lt-mul}
 use native.Mathlib.Numerals.{add-one}
 use native.Mathlib.Omega.{arith}
 use lib.Dec.{eqb}
-use lib.ListN.{length, get_or, take, drop, set, length-set, drop_of_length-le}
-use lib.Seq.{sets, sets-eq, length-sets, drop-cons, ext_get_or, get_or-set_same, get_or-set_other}
+use lib.ListN.{length, get_or, take, drop, set, length-set, length-drop, drop_of_length-le}
+use lib.Seq.{sets, sets-eq, length-sets, take_all, drop-cons, ext_get_or, get_or-set_same, get_or-set_other}
 use borrow.Author.Tests.{eqb-true, eqb-false, le-leb, lt-leb}
 use borrow.Rule.Slice.PartMut.{put_mid, mid_len, Post-is}
+use Rattle.std.proofs.lemmas.List.{map-id}
 use Rattle.waymap.proofs.Booleans.{cases}
 use Rattle.endian.specs.Bytes.{digits, field, cut, joined}
 use Rattle.runs.specs.Runs.{numbers, bytes_of, read_run, put_run}
 use Rattle.endian.proofs.DigitLaws.{digits_long, sets_append}
 use Rattle.endian.proofs.CutLaws.{sets_all}
+use Rattle.endian.proofs.NumberLaws.{put_from}
 use Rattle.runs.proofs.TableLaws.{number_at, numbers_long, numbers_front, bytes_long}
 
 -- ---- taken out
@@ -77,6 +79,20 @@ store_turned {n} {before} {at} {xs} {bytes} {i} {after} l h put =
           ∙ l.is;
     }
 
+-- By one number more, written over the front of what lies from its place on.
+pub stored_next : {n : ℕ} {before xs bytes : List ℕ} {i : ℕ} (k : ℕ) (part : List ℕ) → Storing n before 0 xs bytes i → i < length xs
+    → n * length xs ≤ length before → k ≡ n * i
+    → part ≡ sets (take (length bytes - k) (drop k bytes)) 0 (digits n (get_or xs i 0))
+    → Storing n before 0 xs (put_mid k (length bytes - k) bytes part) (i + 1)
+stored_next {n} {before} {xs} {bytes} {i} k part l h room e written =
+    let vs : List ℕ = digits n (get_or xs i 0) in
+    let most : n * (i + 1) ≤ n * length xs = mul-le-mul (le_refl n) (omega arith) in
+    let next : n * (i + 1) ≡ n * i + n = rw (add-one i, mul-suc n i) in
+    let all : take (length bytes - k) (drop k bytes) ≡ drop k bytes = take_all (length bytes - k) (drop k bytes) (omega (arith, length-drop k bytes)) in
+    let put : put_mid k (length bytes - k) bytes part ≡ sets bytes k vs =
+    put_from k bytes part vs (omega (arith, l.long)) (written ∙ ap (λ (ys : List ℕ). sets ys 0 vs) all) in
+    store_turned l h (put ∙ ap (λ (p : ℕ). sets bytes p vs) (e ∙ sym (zero-add (n * i))))
+
 pub store_end : {n : ℕ} {before : List ℕ} {at : ℕ} {xs bytes : List ℕ} {i : ℕ} → Storing n before at xs bytes i → length xs ≤ i
     → bytes ≡ sets before at (bytes_of n xs)
 unfolding bytes_of joined
@@ -132,3 +148,39 @@ pub none_put : (i n : ℕ) (bytes xs : List ℕ) → length xs ≡ 0 → put_run
 unfolding bytes_of joined
 none_put i n bytes [] e = run_put i n bytes [] (rw (mul-zero n) (omega arith))
 none_put i n bytes (x ∷ xs) e = absurd (omega arith)
+
+-- ---- in what lies from a place on
+
+-- There is room for so many numbers, or there is not.
+pub room : (n k all : ℕ) → 1 ≤ n → k ≤ all / n → n * k ≤ all
+room n k all h l = rw (mul_comm n k) ((le-div_iff_mul-le {k = n} {x = k} {y = all} (omega arith)).0 l)
+
+pub no_room : (n k all : ℕ) → 1 ≤ n → all / n < k → all < n * k
+no_room n k all h l = rw (mul_comm n k) ((div-lt_iff_lt-mul {k = n} {x = all} {y = k} (omega arith)).0 l)
+
+module _ (i n : ℕ) (bytes xs : List ℕ) where
+  -- Behind the end nothing is read, and nothing put.
+  pub read_behind : 1 ≤ n → length bytes ≤ i → xs ≡ read_run i n bytes xs
+  read_behind h l =
+      cases (eqb (length xs) 0)
+      (λ t. sym (none_read i n bytes xs (eqb-true (length xs) 0 t)))
+      (λ t.
+      let some : 1 ≤ length xs = omega (arith, eqb-false (length xs) 0 t) in
+      let more : 1 * 1 ≤ n * length xs = mul-le-mul h some in
+      sym (run_unread i n bytes xs (omega arith)))
+
+  pub put_behind : 1 ≤ n → length bytes ≤ i → bytes ≡ put_run i n xs bytes
+  put_behind h l =
+      cases (eqb (length xs) 0)
+      (λ t. sym (none_put i n bytes xs (eqb-true (length xs) 0 t)))
+      (λ t.
+      let some : 1 ≤ length xs = omega (arith, eqb-false (length xs) 0 t) in
+      let more : 1 * 1 ≤ n * length xs = mul-le-mul h some in
+      sym (run_left i n bytes xs (omega arith)))
+
+-- At numbers that are themselves.
+pub read_plain : (i n : ℕ) (bytes xs ys : List ℕ) → map (λ x. x) ys ≡ read_run i n bytes (map (λ x. x) xs) → ys ≡ read_run i n bytes xs
+read_plain i n bytes xs ys e = sym (map-id ys) ∙ e ∙ ap (read_run i n bytes) (map-id xs)
+
+pub put_plain : (i n : ℕ) (bytes xs after : List ℕ) → after ≡ put_run i n (map (λ x. x) xs) bytes → after ≡ put_run i n xs bytes
+put_plain i n bytes xs after e = e ∙ ap (λ (ys : List ℕ). put_run i n ys bytes) (map-id xs)

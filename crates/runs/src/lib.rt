@@ -1,74 +1,48 @@
 // Runs of little-endian numbers in lent bytes of any number and content.
 #![tactic(auto)]
 
-mod whole;
+ghost use Rattle.std.specs.Prelude.{◌≡◌, ◌*◌, ◌≤◌, length, map};
+ghost use Rattle.std.proofs.lemmas.List.Edits.{sets};
+ghost use Rattle.runs.specs.Runs.{bytes_of, numbers as numbers_in, put_run, read_run};
 
-ghost use Rattle.std.specs.Prelude.{◌≡◌, ◌-◌, length};
-ghost use Rattle.runs.specs.Runs.{read_run, put_run};
+use endian::Number;
 
-// How many bytes there are from a place on.
-fn left(bytes: &[u8], at: usize) -> usize
-    ensures { result ≡ length bytes.now - at }
+// As many numbers as are asked for, from byte `at` on; none is read where fewer are left.
+pub fn read<N: Number>(bytes: &[u8], at: usize, numbers: &mut [N])
+    ensures { map N.number numbers.new ≡ read_run at N.WIDTH bytes.now (map N.number numbers.old) }
 {
-    let all = bytes.len();
-    if at < all {
-        return all - at;
+    if at <= bytes.len() && numbers.len() <= (bytes.len() - at) / N::WIDTH {
+        let end = at + N::WIDTH * numbers.len();
+        load(&bytes[at..end], numbers);
     }
-    0
 }
 
-// As many numbers of four bytes as are asked for, from byte `at` on; none is read where fewer are left.
-pub fn read_u32s(bytes: &[u8], at: usize, numbers: &mut [u32])
-    ensures { numbers.new ≡ read_run at 4 bytes.now numbers.old }
+// From the first byte on, where so many are there.
+fn load<N: Number>(bytes: &[u8], numbers: &mut [N])
+    requires { N.WIDTH * length numbers.old ≤ length bytes.now }
+    ensures { map N.number numbers.new ≡ numbers_in N.WIDTH (length numbers.old) bytes.now }
 {
-    let count = numbers.len();
-    if count == 0 {
-        return;
-    }
-    if count <= left(bytes, at) / 4 {
-        let end = at + 4 * count;
-        whole::load_u32s(&bytes[at..end], numbers);
+    for (i, number) in numbers.iter_mut().enumerate() {
+        *number = N::read(&bytes[N::WIDTH * i..]);
     }
 }
 
 // All of them put, from byte `at` on; none is where they would reach past the end.
-pub fn put_u32s(bytes: &mut [u8], at: usize, numbers: &[u32])
-    ensures { bytes.new ≡ put_run at 4 numbers.now bytes.old }
+pub fn put<N: Number>(bytes: &mut [u8], at: usize, numbers: &[N])
+    ensures { bytes.new ≡ put_run at N.WIDTH (map N.number numbers.now) bytes.old }
 {
-    let count = numbers.len();
-    if count == 0 {
-        return;
-    }
-    if count <= left(bytes, at) / 4 {
-        let end = at + 4 * count;
-        whole::store_u32s(&mut bytes[at..end], numbers);
+    if at <= bytes.len() && numbers.len() <= (bytes.len() - at) / N::WIDTH {
+        let end = at + N::WIDTH * numbers.len();
+        store(&mut bytes[at..end], numbers);
     }
 }
 
-// As many numbers of eight bytes as are asked for, from byte `at` on; none is read where fewer are left.
-pub fn read_u64s(bytes: &[u8], at: usize, numbers: &mut [u64])
-    ensures { numbers.new ≡ read_run at 8 bytes.now numbers.old }
+// From the first byte on, where there is room.
+fn store<N: Number>(bytes: &mut [u8], numbers: &[N])
+    requires { N.WIDTH * length numbers.now ≤ length bytes.old }
+    ensures { bytes.new ≡ sets bytes.old 0 (bytes_of N.WIDTH (map N.number numbers.now)) }
 {
-    let count = numbers.len();
-    if count == 0 {
-        return;
-    }
-    if count <= left(bytes, at) / 8 {
-        let end = at + 8 * count;
-        whole::load_u64s(&bytes[at..end], numbers);
-    }
-}
-
-// All of them put, from byte `at` on; none is where they would reach past the end.
-pub fn put_u64s(bytes: &mut [u8], at: usize, numbers: &[u64])
-    ensures { bytes.new ≡ put_run at 8 numbers.now bytes.old }
-{
-    let count = numbers.len();
-    if count == 0 {
-        return;
-    }
-    if count <= left(bytes, at) / 8 {
-        let end = at + 8 * count;
-        whole::store_u64s(&mut bytes[at..end], numbers);
+    for (i, number) in numbers.iter().enumerate() {
+        number.write(&mut bytes[N::WIDTH * i..]);
     }
 }

@@ -1,58 +1,64 @@
 -- Laws of lines and numbers: for each loop what a turn keeps and what its ends give, and that a line has a byte at least.
 use mathlib.Core.Path.{◌≡◌, refl, sym, ap, ◌∙◌}
-use mathlib.Core.Bool.{Bool, true, false, cond}
-use mathlib.Core.List.{List, [], ◌∷◌}
-use Prim.Native.Nat.{ℕ, zero, suc, ◌+◌, ◌-◌, ◌*◌, ◌≤◌, ◌<◌}
+use mathlib.Core.Bool.{Bool, true, false, cond, not}
+use mathlib.Core.List.{List, [], ◌∷◌, ◌++◌, append-nil, append_assoc}
+use Prim.Native.Nat.{ℕ, zero, suc, ◌+◌, ◌-◌, ◌*◌, ◌≤◌, ◌<◌, min}
 use native.Mathlib.Nat.{not-suc-le-zero, le_of_suc-le-suc}
 use native.Mathlib.Numerals.{add-one}
 use native.Mathlib.Omega.{arith}
-use lib.Dec.{eqb}
-use lib.ListN.{length, drop, get_or, drop_of_length-le}
-use lib.Seq.{drop-cons}
-use borrow.Author.Tests.{eq-eqb, ne_eqb, lt-ltb, le-ltb}
+use lib.Dec.{eqb, ltb}
+use lib.ListN.{length, drop, get_or, set, take, length-set, length-drop, drop_of_length-le}
+use lib.Seq.{drop-cons, drop-nil, take_all, take-suc-set}
+use borrow.Author.Tests.{eq-eqb, ne_eqb, lt-ltb, le-ltb, ltb-true, ltb-false}
+use Rattle.std.proofs.Common.{Some, None, position}
+use Rattle.std.specs.List.{position_or_len}
 use Rattle.script.specs.Script.{behind_first, line_after, with_byte, number_from, number_at, numbers_from, numbers_of}
 
 -- ---- the place behind a byte
 
--- Where the byte stands, the place behind it is the next.
-found : (stop : ℕ) (bytes : List ℕ) (i : ℕ) → i < length bytes → get_or bytes i 0 ≡ stop → suc i ≡ behind_first stop bytes i
+-- The byte is looked for in what lies from the place on.
+behind_drop : (stop : ℕ) (bytes : List ℕ) (from : ℕ)
+    → behind_first stop bytes from ≡ min from (length bytes) + behind_first stop (drop from bytes) 0
 unfolding behind_first
-found stop [] i h e = absurd (not-suc-le-zero h)
-found stop (b ∷ bytes) zero h e = rw (eq-eqb b stop e)
-found stop (b ∷ bytes) (suc i) h e = ap suc (found stop bytes i (le_of_suc-le-suc h) e)
+behind_drop stop [] from = rw (drop-nil {A = ℕ} from) (omega arith)
+behind_drop stop (b ∷ bytes) zero = omega arith
+behind_drop stop (b ∷ bytes) (suc from) = omega (arith, behind_drop stop bytes from)
 
--- Where another byte stands, it is looked for from the next place on.
-passed : (stop : ℕ) (bytes : List ℕ) (i : ℕ) → i < length bytes → (get_or bytes i 0 ≡ stop → ⊥)
-    → behind_first stop bytes (suc i) ≡ behind_first stop bytes i
+abbrev first_place : ℕ → List ℕ → ℕ
+first_place stop bytes = position_or_len (λ b. eqb b stop) bytes
+
+either_place : (t : Bool) (f p n : ℕ) → f ≡ min (p + 1) n → cond t 1 (suc f) ≡ min (cond (not t) (1 + p) 0 + 1) (suc n)
+either_place true f p n e = omega arith
+either_place false f p n e = omega arith
+
+behind_first_place : (stop : ℕ) (bytes : List ℕ) → behind_first stop bytes 0 ≡ min (first_place stop bytes + 1) (length bytes)
 unfolding behind_first
-passed stop [] i h e = absurd (not-suc-le-zero h)
-passed stop (b ∷ bytes) zero h e = rw (ne_eqb b stop e)
-passed stop (b ∷ bytes) (suc i) h e = ap suc (passed stop bytes i (le_of_suc-le-suc h) e)
+behind_first_place stop [] = omega arith
+behind_first_place stop (b ∷ bytes) =
+    either_place (eqb b stop) (behind_first stop bytes 0) (first_place stop bytes) (length bytes) (behind_first_place stop bytes)
 
--- From the length on there is none.
-none : (stop : ℕ) (bytes : List ℕ) (i : ℕ) → length bytes ≤ i → length bytes ≡ behind_first stop bytes i
-unfolding behind_first
-none stop [] i h = refl
-none stop (b ∷ bytes) zero h = absurd (not-suc-le-zero h)
-none stop (b ∷ bytes) (suc i) h = ap suc (none stop bytes i (le_of_suc-le-suc h))
+some_is : (t : Bool) (p m : ℕ) → cond t (Some p) None ≡ Some m → (t ≡ true) × (p ≡ m)
+some_is true p m e = (refl, cc)
+some_is false p m e = absurd cc
 
--- Before byte i: the byte is looked for from here on as from the beginning.
-pub record Looking (stop : ℕ) (bytes : List ℕ) (from i : ℕ) : Type 0 where
-  pub is : behind_first stop bytes i ≡ behind_first stop bytes from
+none_is : (t : Bool) (p : ℕ) → cond t (Some p) None ≡ None → t ≡ false
+none_is true p e = absurd cc
+none_is false p e = refl
 
-pub look_begin : (stop : ℕ) (bytes : List ℕ) (from : ℕ) → Looking stop bytes from from
-look_begin stop bytes from = record { is = refl }
+pub found_behind : (stop : ℕ) (bytes : List ℕ) (from : ℕ) {m : ℕ} → position (λ b. eqb b stop) (drop from bytes) ≡ Some m
+    → from + m + 1 ≡ behind_first stop bytes from
+found_behind stop bytes from {m} e =
+    let rest : List ℕ = drop from bytes in
+    let found = some_is (ltb (first_place stop rest) (length rest)) (first_place stop rest) m e in
+    let within : first_place stop rest < length rest = ltb-true (first_place stop rest) (length rest) found.0 in
+    omega (arith, within, found.1, behind_drop stop bytes from, behind_first_place stop rest, length-drop from bytes)
 
-pub look_turned : {stop : ℕ} {bytes : List ℕ} {from i : ℕ} → Looking stop bytes from i → i < length bytes → (get_or bytes i 0 ≡ stop → ⊥)
-    → Looking stop bytes from (i + 1)
-look_turned {stop} {bytes} {from} {i} p h e = record { is = ap (behind_first stop bytes) (add-one i) ∙ passed stop bytes i h e ∙ p.is }
-
-pub look_found : {stop : ℕ} {bytes : List ℕ} {from i : ℕ} → Looking stop bytes from i → i < length bytes → get_or bytes i 0 ≡ stop
-    → i + 1 ≡ behind_first stop bytes from
-look_found {stop} {bytes} {from} {i} p h e = add-one i ∙ found stop bytes i h e ∙ p.is
-
-pub look_end : {stop : ℕ} {bytes : List ℕ} {from i : ℕ} → Looking stop bytes from i → length bytes ≤ i → length bytes ≡ behind_first stop bytes from
-look_end {stop} {bytes} {from} {i} p h = none stop bytes i h ∙ p.is
+pub none_behind : (stop : ℕ) (bytes : List ℕ) (from : ℕ) → position (λ b. eqb b stop) (drop from bytes) ≡ None → length bytes ≡ behind_first stop bytes from
+none_behind stop bytes from e =
+    let rest : List ℕ = drop from bytes in
+    let beyond : length rest ≤ first_place stop rest = ltb-false (first_place stop rest) (length rest)
+    (none_is (ltb (first_place stop rest) (length rest)) (first_place stop rest) e) in
+    omega (arith, beyond, behind_drop stop bytes from, behind_first_place stop rest, length-drop from bytes)
 
 either_short : (t : Bool) (m n : ℕ) → m ≤ n → cond t 1 (suc m) ≤ suc n
 either_short true m n h = omega arith
@@ -135,11 +141,40 @@ pub read_end : {line : List ℕ} {from n i : ℕ} → Reading line from n i → 
 unfolding number_from
 read_end {line} {from} {n} {i} p h = sym (ap (number_from n) (drop_of_length-le line h)) ∙ p.is
 
+-- By what lies from the place on.
+pub number_rest : (line : List ℕ) (place : ℕ) {rest : List ℕ} → rest ≡ drop place line → number_at rest 0 ≡ number_at line place
+unfolding number_at
+number_rest line place e = ap (number_from 0) e
+
 -- ---- the numbers of a line
 
--- Five places, each behind the next space, and the number at each.
-pub numbers_are : (line : List ℕ) {a b c d k l m n o : ℕ} → a ≡ behind_first 32 line 0 → b ≡ behind_first 32 line a → c ≡ behind_first 32 line b
-    → d ≡ behind_first 32 line c → k ≡ number_at line 0 → l ≡ number_at line a → m ≡ number_at line b → n ≡ number_at line c → o ≡ number_at line d
-    → k ∷ l ∷ m ∷ n ∷ o ∷ [] ≡ numbers_of line
-unfolding numbers_from numbers_of
-numbers_are line p q r s t u v w x = rw (t, u, v, w, x, s, r, q, p)
+-- The first i are there, and those to come make the whole.
+pub record Gathered (line numbers : List ℕ) (place i : ℕ) : Type 0 where
+  pub long : length numbers ≡ 5
+  pub is : take i numbers ++ numbers_from (5 - i) line place ≡ numbers_of line
+
+pub gather_begin : (line numbers : List ℕ) → length numbers ≡ 5 → Gathered line numbers 0 0
+unfolding numbers_of
+gather_begin line numbers e = record { long = e; is = refl }
+
+pub gather_turned : {line numbers : List ℕ} {place i v next : ℕ} → Gathered line numbers place i → i < 5 → v ≡ number_at line place
+    → next ≡ behind_first 32 line place → Gathered line (set numbers i v) next (i + 1)
+unfolding numbers_from
+gather_turned {line} {numbers} {place} {i} {v} {next} g h e n =
+    let left : ℕ = 5 - (i + 1) in
+    let one : 5 - i ≡ suc left = omega (arith, g.long) in
+    let now : take i numbers ++ (number_at line place ∷ numbers_from left line (behind_first 32 line place)) ≡ numbers_of line = rw one at g.is in
+    record {
+      long = length-set numbers i v ∙ g.long;
+      is =
+          ap (λ (k : ℕ). take k (set numbers i v) ++ numbers_from left line next) (add-one i)
+          ∙ ap (λ (xs : List ℕ). xs ++ numbers_from left line next) (take-suc-set numbers i v (omega (arith, g.long)))
+          ∙ append_assoc (take i numbers) (v ∷ []) (numbers_from left line next)
+          ∙ rw (e, n) now;
+    }
+
+pub gather_end : {line numbers : List ℕ} {place i : ℕ} → Gathered line numbers place i → 5 ≤ i → numbers ≡ numbers_of line
+unfolding numbers_from
+gather_end {line} {numbers} {place} {i} g h =
+    let none : 5 - i ≡ 0 = omega (arith, g.long) in
+    sym (append-nil numbers) ∙ (rw (none, take_all i numbers (omega (arith, g.long))) at g.is)

@@ -1,5 +1,5 @@
 -- What a step means, as the code tests its kind.
-use mathlib.Core.Path.{◌≡◌, refl}
+use mathlib.Core.Path.{◌≡◌, refl, sym, ap}
 use mathlib.Core.Bool.{Bool, true, false, not, ◌&&◌}
 use mathlib.Core.List.{List, ◌∷◌}
 use Prim.Native.Nat.{ℕ, ◌+◌, ◌≤◌}
@@ -7,12 +7,15 @@ use native.Mathlib.Omega.{arith}
 use lib.Dec.{eqb, leb}
 use borrow.Author.Tests.{ne_eqb, leb-true, not-true}
 use Rattle.waymap.proofs.Booleans.{cases, and_left, and_right, or_none}
+use Rattle.std.specs.Prelude.{Result, Ok, Err}
 use Rattle.command.specs.Command.{Command}
-use Rattle.selectors.specs.Selectors.{names_core, coreless, Meant, plain, select, refused, meant_by, meant}
-use Rattle.selectors.specs.Calls.{meaning_is}
+use Rattle.command.specs.declared.Refusal.{Refusal}
+use Rattle.command.proofs.RefusalLaws.{number_injective}
+use Rattle.selectors.specs.Selectors.{no_core, names_core, coreless, Meant, plain, select, refused, meant_by, meant, record_by}
+use Rattle.selectors.specs.Calls.{meaning_is, record_left}
 use Rattle.selectors.specs.declared.Core.{Core}
 use Rattle.selectors.specs.declared.Meaning.{Meaning}
-use Rattle.selectors.specs.declared.Meaning.TheVariants.{Plain, Select, Refused}
+use Rattle.selectors.specs.declared.Meaning.TheVariants.{Plain, Select}
 use Rattle.selectors.specs.Statements.{MeaningInjective}
 
 next : (n k : ℕ) → n ≤ k → (k ≡ n → ⊥) → n + 1 ≤ k
@@ -51,16 +54,42 @@ coreless_next c cs e =
 
 -- ---- the contract of `meant` settles its whole answer
 
+-- which of the three it is, the meaning that it tells, and the number
+which : Meant → ℕ
+which (plain c) = 0
+which (select core) = 1
+which (refused n) = 2
+
 meaning_of : Meant → Meaning
 meaning_of (plain c) = Plain c.domain c.kind c.argument
 meaning_of (select core) = Select core
-meaning_of (refused n) = Refused n
+meaning_of (refused n) = Select no_core
 
-meaning_again : (m : Meaning) → meaning_of (meaning_is m) ≡ m
+number_told : Meant → ℕ
+number_told (plain c) = 0
+number_told (select core) = 0
+number_told (refused n) = n
+
+meaning_again : (m : Meaning) → meaning_of (meaning_is (Ok m)) ≡ m
 unfolding meaning_of
 meaning_again (Plain d k a) = refl
 meaning_again (Select core) = refl
-meaning_again (Refused n) = refl
+
+not_refused : (m : Meaning) (r : Refusal) → meaning_is (Ok m) ≡ meaning_is (Err r) → ⊥
+unfolding which
+not_refused (Plain d k a) r e = let f = ap which e in omega arith
+not_refused (Select core) r e = let f = ap which e in omega arith
 
 pub meaning_injective : MeaningInjective
-meaning_injective p q e = rw (← (meaning_again p), ← (meaning_again q), e)
+unfolding number_told
+meaning_injective (Ok p) (Ok q) e = ap Ok (rw (← (meaning_again p), ← (meaning_again q), e))
+meaning_injective (Ok p) (Err s) e = absurd (not_refused p s e)
+meaning_injective (Err r) (Ok q) e = absurd (not_refused q r (sym e))
+meaning_injective (Err r) (Err s) e = ap Err (number_injective r s (ap number_told e))
+
+-- What a step leaves of its core's record, by what it means.
+pub record_told : (m : Result Meaning Refusal) (core : Core) → record_left m core ≡ record_by (meaning_is m) core
+unfolding record_by
+record_told (Ok (Plain d k a)) core = refl
+record_told (Ok (Select next)) core = refl
+record_told (Err r) core = refl

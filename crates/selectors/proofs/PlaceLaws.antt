@@ -29,6 +29,10 @@ use Rattle.selectors.specs.Selectors.{
 }
 use Rattle.selectors.specs.declared.Core.{Core}
 
+-- a record whose selectors are all zero is the fresh one
+pub default_core : (core : Core) → (core.cs ≡ 0) × ((core.ds ≡ 0) × (core.es ≡ 0)) → core ≡ no_core
+default_core core z = λ i. record { cs = z.0 i; ds = z.1.0 i; es = z.1.1 i }
+
 -- the record that is put back, in place i of the list
 pub put_record : (m : Meant) (i : ℕ) (cores : List Core) → set cores i (record_by m (get_or cores i no_core)) ≡ records_by m i cores
 unfolding record_by records_by

@@ -1,14 +1,14 @@
 -- The drops that number 7 looks at.
-use mathlib.Core.Path.{◌≡◌, refl, sym, ap, fun_ext, ◌∙◌}
-use mathlib.Core.Bool.{Bool, true, false, not, ◌&&◌, and-true}
-use Prim.Native.Nat.{ℕ, ◌*◌, ◌≤◌, ◌<◌}
+use mathlib.Core.Path.{◌≡◌, ap, fun_ext}
+use mathlib.Core.Bool.{false, ◌&&◌, and-true}
+use Prim.Native.Nat.{ℕ, ◌*◌, ◌≤◌}
 use native.Mathlib.Nat.{le_trans, le_of_eq, mul_comm}
 use native.Mathlib.Omega.{arith}
 use lib.ListN.{length-take, drop}
-use Rattle.waymap.specs.Bits.{Bits, bit, any}
+use Rattle.waymap.specs.Bits.{Bits, bit}
 use Rattle.waymap.proofs.Booleans.{cases}
 use Rattle.waymap.proofs.WayLaws.{none_at}
-use Rattle.row.specs.Row.{Row, lines_in}
+use Rattle.row.specs.Row.{lines_in}
 use Rattle.row.proofs.LinesLaws.{lines_most}
 use Rattle.policy.specs.Policy.{as_read, new_maps}
 use Rattle.policy.specs.declared.Maps.{Maps}

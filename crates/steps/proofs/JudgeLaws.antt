@@ -8,7 +8,7 @@ use native.Mathlib.Omega.{arith}
 use lib.Dec.{lit<}
 use lib.ListN.{length}
 use borrow.Author.Tests.{le-ltb}
-use Rattle.waymap.specs.Bits.{Bits, bit, word, count}
+use Rattle.waymap.specs.Bits.{Bits, bit, word}
 use Rattle.waymap.proofs.WordLaws.{bit_word_in}
 use Rattle.waymap.proofs.WayLaws.{count_le}
 use Rattle.policy.specs.Policy.{as_read, new_maps}

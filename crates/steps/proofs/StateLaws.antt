@@ -2,7 +2,6 @@
 use mathlib.Core.Path.{◌≡◌, refl, sym, ap, ◌∙◌}
 use mathlib.Core.Bool.{Bool, true, false}
 use Prim.Native.Nat.{ℕ, ◌*◌, ◌≤◌, ◌<◌}
-use native.Mathlib.Nat.{suc-ne-zero}
 use native.Mathlib.Omega.{arith}
 use lib.Dec.{eqb}
 use lib.ListN.{length}
@@ -11,7 +10,7 @@ use Rattle.waymap.proofs.Booleans.{cases}
 use Rattle.replacement.specs.Rule.{Rule, rule_of}
 use Rattle.row.specs.Row.{Row, Effect}
 use Rattle.row.proofs.LineLaws.{access_long, flush_long}
-use Rattle.policy.specs.Policy.{as_read, new_maps, bad_argument}
+use Rattle.policy.specs.Policy.{as_read, new_maps}
 use Rattle.policy.specs.declared.Maps.{Maps}
 use Rattle.sweep.specs.Clean.{cleaned}
 use Rattle.sweep.proofs.CleanLaws.{clean_long}

@@ -8,7 +8,6 @@ use native.Mathlib.Omega.{arith}
 use lib.Dec.{eqb}
 use lib.ListN.{length, get_or, set}
 use borrow.Author.Tests.{ne_eqb}
-use denote.Enum.Declared.{tag_of as variant_of}
 use Rattle.waymap.specs.Bits.{Bits}
 use Rattle.waymap.proofs.Booleans.{cases}
 use Rattle.replacement.specs.Rule.{rule_of}
@@ -35,7 +34,6 @@ use Rattle.command.specs.declared.LineUse.TheVariants.{Load, Store, Flush}
 use Rattle.domains.specs.declared.Domain.{Domain}
 use Rattle.domains.specs.declared.Domains.{Domains}
 use Rattle.domains.specs.declared.Policies.{Policies}
-use Rattle.geometry.proofs.GeometryLaws.{limited}
 use Rattle.verdict.proofs.RefusalLaws.{by_line, by_policy, by_unknown}
 use Rattle.verdict.proofs.PolicyLaws.{read_policies, read_held}
 use Rattle.geometry.specs.Address.{set_of, tag_of}

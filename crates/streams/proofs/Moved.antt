@@ -1,8 +1,8 @@
 -- What came behind a front, and what a reader has given.
-use Rattle.std.proofs.Common.{◌≡◌, ℕ, ◌+◌, ◌-◌, ◌≤◌, List, ◌++◌, min, Option, None, Some, IfSome, length, take, drop, sym, ap, ◌∙◌, arith, le_refl, drop_at, length-take-le, length-append, length-drop, append-nil}
-use Rattle.std.proofs.lemmas.List.{take_rest}
+use Rattle.std.proofs.Common.{◌≡◌, ℕ, ◌+◌, ◌-◌, ◌≤◌, List, ◌++◌, min, Option, None, Some, IfSome, length, take, drop, sym, ap, ◌∙◌, arith, le_refl, drop_at, length-take-le, length-append, length-drop}
+use Rattle.std.proofs.lemmas.List.{take_min, take_rest}
 use Rattle.std.proofs.lemmas.Slice.{take-put_mid_below}
-use Rattle.std.specs.Io.KnownBytes.{Consumes, IsAtEnd}
+use Rattle.std.specs.Io.{StartsWith}
 use borrow.Rule.Slice.PartMut.{put_mid, post_of}
 use lib.Seq.{take-add, take-append-le}
 
@@ -28,18 +28,11 @@ front_and_written a n xs = ap (λ l. take a xs ++ take n l) (take_rest xs a) ∙
 pub within_both : (a n : ℕ) (xs : List ℕ) → a ≤ length xs → n ≤ length (take (length xs - a) (drop a xs)) → a + n ≤ length xs
 within_both a n xs within fits = omega (arith, ap length (take_rest xs a), length-drop a xs)
 
--- A reader with nothing left has given all of its bytes, of which there are at most n.
-pub all_given : (a b : Option (List ℕ)) (bs : List ℕ) (count n : ℕ) → count ≡ length bs → count ≤ n → Consumes a b bs → IsAtEnd b → IfSome a (λ xs. count ≡ min (length xs) n)
-all_given None b bs count n many few p q = tt
-all_given (Some xs) None bs count n many few p q = absurd p
-all_given (Some xs) (Some ys) bs count n many few p q =
-    let same : length xs ≡ length bs = ap length (p ∙ ap (λ l. bs ++ l) q ∙ append-nil bs) in
-    omega arith
-
--- A reader that has given n bytes or more had as many.
-pub some_given : (a b : Option (List ℕ)) (bs : List ℕ) (count n : ℕ) → count ≡ length bs → count ≡ n → Consumes a b bs → IfSome a (λ xs. count ≡ min (length xs) n)
-some_given None b bs count n many full p = tt
-some_given (Some xs) None bs count n many full p = absurd p
-some_given (Some xs) (Some ys) bs count n many full p =
-    let more : length xs ≡ length bs + length ys = ap length p ∙ length-append bs ys in
-    omega arith
+-- What was kept of an input that was read to its end is what it has, as far as there is room.
+pub kept_front : (known : Option (List ℕ)) (file : List ℕ) (count n : ℕ) → count ≡ length (take count file)
+    → IfSome known (λ bytes. StartsWith bytes (take count file)) → IfSome known (λ bytes. count ≡ min (length bytes) n)
+    → IfSome known (λ bytes. take count file ≡ take n bytes)
+kept_front None file count n long front whole = tt
+kept_front (Some bytes) file count n long front whole =
+    let many : count ≡ min n (length bytes) = omega (arith, whole) in
+    sym front ∙ ap (λ k. take k bytes) (sym long ∙ many) ∙ take_min n bytes

@@ -1,41 +1,56 @@
 // Input, read to its end, output, and a program's arguments: the one layer over the library's readers, writers and environment.
 #![tactic(auto)]
 
-ghost use Rattle.std.specs.Prelude.{◌≡◌, ℕ, ◌<◌, ◌≤◌, min, length, take, decimal, IfOk, IfSome, IsTrue};
+ghost use Rattle.std.specs.Prelude.{◌≡◌, ℕ, ◌<◌, ◌≤◌, min, length, take, decimal, IfOk, IfSome, IsErrOf, IsTrue, OnOk, ◌⊎◌};
 ghost use Rattle.std.specs.Io.{StartsWith};
 ghost use Rattle.std.specs.Io.KnownBytes.{Appends, Consumes, IsAtEnd};
 ghost use Rattle.io.specs.Counts.{IsPrefixLen};
+ghost use Rattle.streams.specs.Kept.{kept};
+ghost use Rattle.streams.specs.Shown.{Shown};
 
-use std::io::{Read, Result, Write};
+use std::io::{Error, ErrorKind, Read, Result, Write};
 use std::rt::Env;
+use std::{fmt, result};
 
-// How many bytes of the input were kept, and whether it was read to its end without a failed read.
-#[derive(Clone, Copy)]
-pub struct Got {
+// How many bytes of a trace file are kept: one more than the longest file has, so that a longer one is seen to be longer.
+pub const ROOM: usize = 40969;
+
+// The input could not be read to its end: how many bytes of it were kept.
+#[derive(Clone, Copy, Debug, PartialEq, Eq)]
+pub struct Unread {
     pub count: usize,
-    pub whole: bool,
 }
 
-// Reads once: how many bytes came, 0 at the end of the input or for a failed read.
-fn read_some<R: Read>(input: &mut R, buf: &mut [u8]) -> usize
-    ensures in_bounds { IsPrefixLen result buf.new }
-    ensures bytes { Consumes (R.remaining input.old) (R.remaining input.new) (take result buf.new) }
-{
-    input.read(buf).unwrap_or(0)
+// What kept a program from writing all that it has to.
+#[derive(Clone, Copy, Debug, PartialEq, Eq)]
+pub enum Failure {
+    Input,
+    Output,
 }
 
-// Reads until the buffer is full, the input ends or a read fails, and answers how many bytes it put at the front.
+impl fmt::Display for Failure {
+    fn fmt<W: fmt::Write>(&self, f: &mut fmt::Formatter<W>) -> fmt::Result {
+        f.write_str(match self {
+            Failure::Input => "standard input could not be read to its end",
+            Failure::Output => "standard output could not be written",
+        })
+    }
+}
+
+impl std::error::Error for Failure {}
+
+// Reads until the buffer is full, the input ends or a read fails, and answers how many bytes it put at the front. No index is counted: each
+// read says how far it came.
 fn read_full<R: Read>(input: &mut R, buf: &mut [u8]) -> usize
     ensures in_bounds { IsPrefixLen result buf.new }
     ensures bytes { Consumes (R.remaining input.old) (R.remaining input.new) (take result buf.new) }
 {
     let mut done = 0;
     while done < buf.len() {
-        let n = read_some(input, &mut buf[done..]);
-        if n == 0 {
-            break;
+        match input.read(&mut buf[done..]) {
+            Ok(0) | Err(_) => break,
+            Ok(n) => done += n,
         }
-        done += n;
     }
     done
 }
@@ -49,76 +64,98 @@ fn read_on<R: Read>(input: &mut R) -> Result<usize>
     input.read(&mut rest)
 }
 
-// Reads on until nothing comes, and answers whether that was the end. A proved loop counts its turns, here down from a number that no
+// Reads on until nothing comes, and answers whether that was the end. A proved loop counts its turns, here up to a number that no
 // input uses up.
 fn read_out<R: Read>(input: &mut R) -> bool
     ensures { IsTrue result → IsAtEnd (R.remaining input.new) }
 {
-    let mut turns = u64::MAX;
-    while turns > 0 {
+    for _ in 0..u64::MAX {
         match read_on(input) {
             Ok(0) => return true,
             Ok(_) => {}
             Err(_) => return false,
         }
-        turns -= 1;
     }
     false
 }
 
-// Reads a trace file. It keeps one byte more than the longest file has, 40,968, so that a longer one is seen to be
-// longer, and reads and drops the rest. Where fewer bytes came, the next read has to find the end: `read_full` stops at a failed read too.
-pub fn read_file<R: Read>(input: &mut R, file: &mut [u8; 40969]) -> Got
-    ensures in_bounds { IsPrefixLen result.count file.new }
-    ensures front { IfSome (R.remaining input.old) (λ bytes. StartsWith bytes (take result.count file.new)) }
-    ensures whole { IsTrue result.whole → IfSome (R.remaining input.old) (λ bytes. result.count ≡ min (length bytes) 40969) }
-    ensures end { IsTrue result.whole → IsAtEnd (R.remaining input.new) }
+// Whether the input ends behind the bytes that were kept. Where fewer came than there was room for, the next read has to find the end, since
+// `read_full` stops at a failed read too; else the rest is read and dropped.
+fn is_at_end<R: Read>(input: &mut R, count: usize) -> bool
+    ensures none_left { IsTrue result → count < ROOM → IsAtEnd (R.remaining input.old) }
+    ensures end { IsTrue result → IsAtEnd (R.remaining input.new) }
 {
-    let count = read_full(input, file);
-    let whole = if count < 40969 {
+    if count < ROOM {
         matches!(read_on(input), Ok(0))
     } else {
         read_out(input)
-    };
-    Got { count, whole }
+    }
 }
 
-// Writes all of the bytes, or stops at the first write that takes nothing or fails, and answers whether all were written.
-pub fn write_all<W: Write>(output: &mut W, bytes: &[u8]) -> bool
-    ensures all { IsTrue result → Appends (W.contents output.old) (W.contents output.new) bytes.now }
+// Reads a trace file, or as much of it as there is room for. A longer one is read to its end all the same.
+pub fn read_file<R: Read>(input: &mut R, file: &mut [u8; ROOM]) -> result::Result<usize, Unread>
+    ensures in_bounds { IsPrefixLen (kept result) file.new }
+    ensures front { IfSome (R.remaining input.old) (λ bytes. StartsWith bytes (take (kept result) file.new)) }
+    ensures whole { IfOk result (λ count. IfSome (R.remaining input.old) (λ bytes. count ≡ min (length bytes) ROOM)) }
+    ensures end { OnOk result (IsAtEnd (R.remaining input.new)) }
+{
+    let count = read_full(input, file);
+    if is_at_end(input, count) {
+        Ok(count)
+    } else {
+        Err(Unread { count })
+    }
+}
+
+// Hands a trace file on the input to `show`, which writes to the output. An input that was not read to its end is not shown.
+pub fn show_input<R: Read, W: Write, F: FnOnce(&mut W, &[u8]) -> Result<()>>(
+    input: &mut R,
+    output: &mut W,
+    show: F,
+) -> result::Result<(), Failure>
+    requires { F.IsAlwaysCallable show }
+    ensures end { (IsErrOf result Failure.Input) ⊎ (IsAtEnd (R.remaining input.new)) }
+    ensures unread { IsErrOf result Failure.Input → output.new ≡ output.old }
+    ensures shown { OnOk result (Shown (F.post show) output.old output.new (R.remaining input.old) (Ok tt)) }
+    ensures stopped { IsErrOf result Failure.Output → (e : _) × Shown (F.post show) output.old output.new (R.remaining input.old) (Err e) }
+{
+    let mut file = [0; ROOM];
+    let Ok(count) = read_file(input, &mut file) else {
+        return Err(Failure::Input);
+    };
+    match show(output, &file[..count]) {
+        Ok(()) => Ok(()),
+        Err(_) => Err(Failure::Output),
+    }
+}
+
+// Writes all of the bytes, or stops at the first write that takes nothing or fails. The library's `write_all` says nothing of what was written before
+// a failure, as `front` does here.
+pub fn write_all<W: Write>(output: &mut W, bytes: &[u8]) -> Result<()>
+    ensures all { OnOk result (Appends (W.contents output.old) (W.contents output.new) bytes.now) }
     ensures front { (n : ℕ) × Appends (W.contents output.old) (W.contents output.new) (take n bytes.now) }
 {
     let mut done = 0;
     while done < bytes.len() {
-        let n = write_some(output, &bytes[done..]);
+        let n = output.write(&bytes[done..])?;
         if n == 0 {
-            return false;
+            return Err(Error::from(ErrorKind::WriteZero));
         }
         done += n;
     }
-    true
+    Ok(())
 }
 
-// Writes once: how many bytes were taken, 0 for a failed write.
-fn write_some<W: Write>(output: &mut W, bytes: &[u8]) -> usize
-    ensures in_bounds { result ≤ length bytes.now }
-    ensures bytes { Appends (W.contents output.old) (W.contents output.new) (take result bytes.now) }
+// Writes a number in decimal.
+pub fn print_decimal<W: Write>(output: &mut W, n: u64) -> Result<()>
+    ensures { OnOk result (Appends (W.contents output.old) (W.contents output.new) (decimal n)) }
 {
-    output.write(bytes).unwrap_or(0)
+    write!(output, "{n}")
 }
 
-// Writes a number in decimal, and answers what `write_all` does.
-pub fn print_decimal<W: Write>(output: &mut W, n: u64) -> bool
-    ensures { IsTrue result → Appends (W.contents output.old) (W.contents output.new) (decimal n) }
+// Puts argument i at the front of the buffer, and answers its length, if there is one and it has room. Argument 0 is the program's name.
+pub fn arg(rt: &impl Env, i: usize, buf: &mut [u8]) -> Option<usize>
+    ensures { IfSome result (λ count. IsPrefixLen count buf.new) }
 {
-    let mut text = [0u8; 20];
-    let count = io::decimal(n, &mut text);
-    write_all(output, &text[..count])
-}
-
-// Puts argument i at the front of the buffer, and answers its length, or 0 where there is none or it has no room. Argument 0 is the program's name.
-pub fn arg(rt: &impl Env, i: usize, buf: &mut [u8]) -> usize
-    ensures { IsPrefixLen result buf.new }
-{
-    rt.arg(i, buf).unwrap_or(0)
+    rt.arg(i, buf).ok()
 }

@@ -71,7 +71,7 @@ pub fn swept(tags: &mut [u64], lines: Lines, sweep: Sweep) -> Done
 }
 
 // The valid lines that a change of policy dropped, and how many of them were dirty.
-#[derive(Clone, Copy)]
+#[derive(Clone, Copy, Default)]
 pub struct Drops {
     pub dropped: usize,
     pub dirty: usize,
@@ -83,10 +83,7 @@ fn drops_of(answer: Answer) -> Drops
 {
     match answer {
         Answer::Policy { dropped, dirty } => Drops { dropped, dirty },
-        _ => Drops {
-            dropped: 0,
-            dirty: 0,
-        },
+        _ => Drops::default(),
     }
 }
 
@@ -96,7 +93,7 @@ pub fn added(drops: Drops, answer: Answer) -> Drops
 {
     let more = drops_of(answer);
     Drops {
-        dropped: std::num::wrapping_add_usize(drops.dropped, more.dropped),
-        dirty: std::num::wrapping_add_usize(drops.dirty, more.dirty),
+        dropped: drops.dropped.wrapping_add(more.dropped),
+        dirty: drops.dirty.wrapping_add(more.dirty),
     }
 }

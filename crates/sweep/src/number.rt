@@ -14,11 +14,9 @@ pub fn lines_in(valid: u16, map: u16) -> usize
 pub fn lines_among(valid: &[u16], map: u16) -> usize
     ensures { result ≡ lines_among (bit map) valid.now % 2 ^ 64 }
 {
-    let mut lines = 0;
-    let mut set = 0;
-    while set < valid.len() {
-        lines = std::num::wrapping_add_usize(lines, lines_in(valid[set], map));
-        set += 1;
+    let mut lines = 0usize;
+    for held in valid {
+        lines = lines.wrapping_add(lines_in(*held, map));
     }
     lines
 }

@@ -3,7 +3,7 @@ ghost use Rattle.std.specs.Prelude.{◌≡◌, ◌^◌, ◌<◌, length};
 ghost use Rattle.waymap.specs.Bits.{bit};
 ghost use Rattle.sweep.specs.Clean.{wiped};
 
-// The tags of the map's ways become zero, the lowest first.
+// The tags of the map's ways become zero, the lowest first, which trailing zeros give: no place is counted.
 pub fn wipe(tags: &mut [u64], map: u16)
     requires { map < 2 ^ length tags.old }
     ensures { tags.new ≡ wiped (bit map) tags.old }

@@ -1,24 +1,28 @@
 -- The lines of a listing, piece after piece.
 use mathlib.Core.Path.{◌≡◌, refl, sym, ap, ◌∙◌}
-use mathlib.Core.List.{List, [], ◌∷◌, ◌++◌, map, append_assoc}
+use mathlib.Core.Bool.{Bool, true, false, cond}
+use mir.Val.{bool_byte}
+use mathlib.Core.List.{List, [], ◌∷◌, ◌++◌, append_assoc}
 use Prim.Native.Nat.{ℕ, suc, ◌+◌, ◌-◌, ◌*◌, ◌≤◌, ◌<◌}
 use native.Mathlib.Omega.{arith}
-use lib.Dec.{T, leb, lit≤}
-use lib.ListN.{length, take, length-take}
+use lib.ListN.{length}
 use borrow.Author.Tests.{eq-eqb, ne_eqb}
 use Rattle.policy.specs.Policy.{as_read}
 use Rattle.policy.specs.declared.Maps.{Maps}
 use Rattle.domains.specs.Domains.{domain_of}
 use Rattle.domains.specs.declared.Domain.{Domain}
 use Rattle.domains.specs.declared.Domains.{Domains}
-use Rattle.listing.specs.Listing.{decimal, line, domain_line, domain_part, domain_lines}
-use Rattle.trace.specs.Inside.{Written, written_of, append, numbers_of, Says}
-use Rattle.trace.specs.declared.lines.Phrase.{Phrase}
+use Rattle.command.specs.declared.Answer.TheVariants.{Hit, Fill, Evict, Pass, Flush, Absent, Policy, Refused}
+use Rattle.cores.specs.Calls.{reply_of}
+use Rattle.cores.specs.declared.Reply.{Reply}
+use Rattle.cores.specs.declared.Reply.TheVariants.{Cache, Select}
+use Rattle.listing.specs.Listing.{decimal, line, told, domain_line, domain_part, domain_lines}
+use Rattle.trace.specs.Inside.{Written, written_of, append}
 use Rattle.trace.proofs.TextLaws.{append_append, append_none, piece_long}
 
 -- ---- a step's line
 
-pub step_is : (place : ℕ) (word : List ℕ) (rest : List (List ℕ)) (w : Written) {next r : ℕ} {out last : List ℕ}
+step_is : (place : ℕ) (word : List ℕ) (rest : List (List ℕ)) (w : Written) {next r : ℕ} {out last : List ℕ}
     → written_of next out ≡ append (decimal place ++ 32 ∷ []) w → written_of r last ≡ append (line (word ∷ rest)) (written_of next out)
     → written_of r last ≡ append (line (decimal place ∷ word ∷ rest)) w
 unfolding line
@@ -28,20 +32,25 @@ step_is place word rest w e f =
     ∙ append_append (decimal place ++ 32 ∷ []) (line (word ∷ rest)) w
     ∙ ap (λ (xs : List ℕ). append xs w) (append_assoc (decimal place) (32 ∷ []) (line (word ∷ rest)))
 
--- A part up to n has at most n elements.
-pub part_short : {n m : ℕ} (xs : List ℕ) → n ≤ m → length (take n xs) ≤ m
-part_short {n} xs h = omega (arith, length-take n xs)
+-- A test as a number.
+pub byte_is : (b : Bool) → bool_byte b ≡ cond b 1 0
+byte_is true = refl
+byte_is false = refl
 
--- The line of a phrase is that of the word and the fields which it says.
-pub said_line : {p : Phrase} {fields : List (List ℕ)} {r : ℕ} {last : List ℕ} (place : ℕ) (w : Written) → Says p fields
-    → written_of r last ≡ append (line (decimal place ∷ take p.1 p.0 ∷ map decimal (take p.5 (numbers_of p)))) w
-    → written_of r last ≡ append (line (decimal place ∷ fields)) w
-said_line place w s e = e ∙ ap (λ (fields : List (List ℕ)). append (line (decimal place ∷ fields)) w) s.is
-
--- A phrase says the fields that it is equal to, where its lengths are within the longest: each is a test of numbers.
-pub says : {p : Phrase} {fields : List (List ℕ)} → T (leb p.1 (length p.0)) → T (leb p.1 7) → T (leb p.5 3)
-    → take p.1 p.0 ∷ map decimal (take p.5 (numbers_of p)) ≡ fields → Says p fields
-says inside short few is = record { is = is; inside = lit≤ inside; short = lit≤ short; few = lit≤ few }
+-- A reply's fields, behind its place: the first is a word.
+pub answer_is : (place : ℕ) (reply : Reply) (w : Written) {next r : ℕ} {out last : List ℕ}
+    → written_of next out ≡ append (decimal place ++ 32 ∷ []) w → written_of r last ≡ append (line (told (reply_of reply))) (written_of next out)
+    → written_of r last ≡ append (line (decimal place ∷ told (reply_of reply))) w
+unfolding told
+answer_is place (Cache (Hit v)) w e f = step_is place _ _ w e f
+answer_is place (Cache (Fill v)) w e f = step_is place _ _ w e f
+answer_is place (Cache (Evict v tag dirty)) w e f = step_is place _ _ w e f
+answer_is place (Cache Pass) w e f = step_is place _ _ w e f
+answer_is place (Cache (Flush v dirty)) w e f = step_is place _ _ w e f
+answer_is place (Cache Absent) w e f = step_is place _ _ w e f
+answer_is place (Cache (Policy n d)) w e f = step_is place _ _ w e f
+answer_is place (Cache (Refused n)) w e f = step_is place _ _ w e f
+answer_is place (Select core) w e f = step_is place _ _ w e f
 
 -- ---- the domains' lines
 

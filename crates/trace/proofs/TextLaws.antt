@@ -2,14 +2,15 @@
 use mathlib.Core.Path.{◌≡◌, refl, sym, ap, ap₂, ◌∙◌}
 use mathlib.Core.List.{List, [], ◌∷◌, ◌++◌, map, append_assoc, append-nil}
 use Prim.Native.Nat.{ℕ, zero, suc, ◌+◌, ◌-◌, ◌*◌, ◌/◌, ◌%◌, ◌^◌, ◌≤◌, ◌<◌}
-use native.Mathlib.Nat.{add-zero, add_assoc, pow-suc, pow-le-pow_right, not-suc-le-zero, le_of_suc-le-suc, one-le-pow, mod-eq_of_lt}
+use native.Mathlib.Nat.{add-zero, pow-suc, pow-le-pow_right, not-suc-le-zero, le_of_suc-le-suc, one-le-pow, mod-eq_of_lt}
 use native.Mathlib.Numerals.{add-one}
 use native.Mathlib.Omega.{arith}
 use mir.Syntax.{w64}
 use mir.Val.{Fits}
 use lib.Dec.{ltb}
-use lib.ListN.{length, drop, set, get_or, length-append, length-drop, length-map, drop_of_length-le, length-set}
-use lib.Seq.{sets, length-sets}
+use lib.ListN.{length, take, drop, set, get_or, length-append, length-drop, length-map, drop_of_length-le, length-set}
+use lib.Seq.{sets, sets-eq, length-sets}
+use borrow.Rule.Slice.PartMut.{put_mid, Post-is}
 use borrow.Author.Tests.{ltb-true, ltb-false, lt-ltb, le-ltb}
 use Rattle.waymap.proofs.Booleans.{cases}
 use Rattle.io.specs.Digits.{last_digits as digits, IsDigitCount}
@@ -51,36 +52,15 @@ piece_long xs w e = ap (λ (v : Written). length v.out) e ∙ length-sets w.out 
 
 -- ---- bytes
 
--- After i bytes: the bytes to come make the whole.
-pub record Putting (bytes out₀ : List ℕ) (at : ℕ) (out : List ℕ) (i : ℕ) : Type 0 where
-  pub inside : i ≤ length bytes
-  pub fits : at + length bytes ≤ length out₀
-  pub long : length out ≡ length out₀
-  pub is : append (drop i bytes) (written_of (at + i) out) ≡ append bytes (written_of at out₀)
-
-pub put_begin : (bytes out : List ℕ) (at : ℕ) → at + length bytes ≤ length out → Putting bytes out at out 0
-put_begin bytes out at h = record { inside = omega arith; fits = h; long = refl; is = ap (λ (n : ℕ). append bytes (written_of n out)) (add-zero at) }
-
-pub put_turned : {bytes out₀ out : List ℕ} {at i : ℕ} (z : ℕ) → Putting bytes out₀ at out i → i < length bytes
-    → Putting bytes out₀ at (set out (at + i) (get_or bytes i z)) (i + 1)
-put_turned {bytes} {out₀} {out} {at} {i} z p h = record {
-  inside = omega arith;
-  fits = p.fits;
-  long = length-set out (at + i) (get_or bytes i z) ∙ p.long;
-  is =
-      ap (append (drop (i + 1) bytes))
-      (ap (λ (n : ℕ). written_of n (set out (at + i) (get_or bytes i z))) (sym (add_assoc at i 1)) ∙ sym (append_byte (get_or bytes i z) (at + i) out))
-      ∙ append_append (get_or bytes i z ∷ []) (drop (i + 1) bytes) (written_of (at + i) out)
-      ∙ ap (λ (xs : List ℕ). append xs (written_of (at + i) out)) (sym (drop_next i bytes z h))
-      ∙ p.is;
-}
-
-pub put_end : {bytes out₀ out : List ℕ} {at i : ℕ} → Putting bytes out₀ at out i → length bytes ≤ i
-    → written_of (at + length bytes) out ≡ append bytes (written_of at out₀)
-put_end {bytes} {out₀} {out} {at} {i} p h =
-    let e : length bytes ≡ i = omega (arith, p.inside) in
-    rw e (sym (ap (λ (xs : List ℕ). append xs (written_of (at + i) out)) (drop_of_length-le bytes h) ∙ append_none (written_of (at + i) out)))
-    ∙ p.is
+-- A part of the output that is written whole is a piece.
+pub put_is : (at : ℕ) (bytes out : List ℕ) {new : List ℕ} → at + length bytes ≤ length out → new ≡ bytes
+    → written_of (at + length bytes) (put_mid at (at + length bytes - at) out new) ≡ append bytes (written_of at out)
+unfolding append
+put_is at bytes out fits e =
+    rw e
+    (ap (written_of (at + length bytes))
+    (ap (λ (behind : List ℕ). take at out ++ (bytes ++ behind)) (Post-is at (at + length bytes) out (omega arith))
+    ∙ sym (append_assoc (take at out) bytes (drop (at + length bytes) out)) ∙ sym (sets-eq bytes out at fits)))
 
 -- ---- numbers
 

@@ -1,5 +1,5 @@
 -- What the crate's inner functions go by.
-use Rattle.std.specs.Prelude.{cond, ◌≡◌, List, [], ◌∷◌, map, ℕ, ◌+◌, ◌*◌, ◌≤◌, ltb, length, take}
+use Rattle.std.specs.Prelude.{cond, List, ℕ, ◌+◌, ◌*◌, ◌≤◌, ltb, length}
 use Rattle.std.proofs.lemmas.List.Edits.{sets}
 use Rattle.geometry.specs.declared.Geometry.{Geometry}
 use Rattle.domains.specs.Domains.{max_domains}
@@ -10,8 +10,7 @@ use Rattle.cores.specs.Calls.{lent_of}
 use Rattle.steps.specs.Fresh.{fresh_domains}
 use Rattle.steps.specs.Tables.{Tables}
 use Rattle.tracefile.specs.File.{max_file_sets, last_steps}
-use Rattle.listing.specs.Listing.{lister_cores, decimal, answer_lines, domain_lines, run_lines}
-use Rattle.trace.specs.declared.lines.Phrase.{Phrase}
+use Rattle.listing.specs.Listing.{lister_cores, answer_lines, domain_lines, run_lines}
 
 -- An output, and the place in it where the next bytes go.
 pub record Written : Type 0 where
@@ -24,16 +23,6 @@ written_of at out = record { at = at; out = out }
 -- The output with bytes put there.
 unfoldable pub append : List ℕ → Written → Written
 append bytes w = record { at = w.at + length bytes; out = sets w.out w.at bytes }
-
--- A phrase is a word, the first `p.1` bytes of `p.0`, and fields, the first `p.5` of its three numbers.
-abbrev pub numbers_of : Phrase → List ℕ
-numbers_of p = p.2 ∷ p.3 ∷ p.4 ∷ []
-
-pub record Says (p : Phrase) (fields : List (List ℕ)) : Type 0 where
-  pub is : take p.1 p.0 ∷ map decimal (take p.5 (numbers_of p)) ≡ fields
-  pub inside : p.1 ≤ length p.0
-  pub short : p.1 ≤ 7
-  pub few : p.5 ≤ 3
 
 -- What stands after field i of n: a space, or the line's end.
 unfoldable pub end_of : ℕ → ℕ → ℕ

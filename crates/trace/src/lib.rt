@@ -6,21 +6,62 @@ mod text;
 
 ghost use Rattle.std.specs.Prelude.{◌≡◌, true, ◌+◌, ◌*◌, ◌≤◌, length};
 ghost use Rattle.io.specs.Counts.{IsPrefixLen};
+ghost use Rattle.command.specs.Command.{command_is};
 ghost use Rattle.geometry.specs.Geometry.{within, sized};
+ghost use Rattle.selectors.specs.Selectors.{max_cores};
+ghost use Rattle.cores.specs.Step.{core_step};
+ghost use Rattle.cores.specs.Calls.{lent_of, result_of};
 ghost use Rattle.steps.specs.Step.{tables_of};
 ghost use Rattle.steps.specs.Tables.{lengths};
 ghost use Rattle.tracefile.specs.File.{max_steps, file_refusal};
 ghost use Rattle.trace.specs.Calls.{listed_of, list_of};
 ghost use Rattle.trace.specs.Inside.{written_of, listed_by, ran_by, listing_by, Roomy};
 
-use command::Answer;
-use cores::{Reply, Stepped};
+use command::Command;
+use cores::Reply;
+use domains::Domains;
 use geometry::Geometry;
 use selectors::{Core, MAX_CORES};
 use tracefile::MAX_SETS;
 
 // The tags of as many sets as a file may name, of sixteen ways each.
 pub const TAGS: usize = 16 * MAX_SETS;
+
+// A step where 32 records are lent, and what it answers. A core that is not in the list is given another's record here, to no effect, and leaves it.
+// `cores::step` does the same; tried, and it is slower: a hit took 96 instructions more, since the domains are copied once more.
+fn take(
+    g: Geometry,
+    tags: &mut [u64],
+    valid: &mut [u16],
+    dirty: &mut [u16],
+    words: &mut [u64],
+    domains: &mut Domains,
+    cores: &mut [Core],
+    command: Command,
+) -> Reply
+    requires { length cores.old ≡ max_cores }
+    ensures { result_of (record { reply = result; domains = domains.new }) (tables_of tags.new valid.new dirty.new words.new) cores.new
+        ≡ core_step g (command_is command) (lent_of (tables_of tags.old valid.old dirty.old words.old) domains.old cores.old) }
+{
+    let named = command.domain as usize;
+    let place = named % MAX_CORES;
+    let turned = cores::turn(
+        g,
+        tags,
+        valid,
+        dirty,
+        words,
+        *domains,
+        MAX_CORES,
+        cores[place],
+        named,
+        command.kind,
+        command.argument,
+    );
+    cores[place] = turned.core;
+    *domains = turned.stepped.domains;
+    turned.stepped.reply
+}
 
 // The lines of a file's steps, taken one after another on the tables as they are from fresh domains on, and those of the domains.
 fn run(
@@ -40,44 +81,24 @@ fn run(
         (tables_of tags.old valid.old dirty.old words.old) (written_of at out.old) }
     ensures upper_bound { result ≤ at + (92 * steps + 2800) }
 {
-    let mut cores = [Core {
-        cs: 0,
-        ds: 0,
-        es: 0,
-    }; MAX_CORES];
-    let mut last = Stepped {
-        reply: Reply::Cache(Answer::Absent),
-        domains: fresh::fresh_domains(),
-    };
+    let mut cores = [Core::default(); MAX_CORES];
+    let mut domains = fresh::fresh_domains();
     let mut next = at;
-    let mut i = 0;
-    while i < steps {
+    for i in 0..steps {
         let command = tracefile::command_at(file, steps, i);
-        let named = command.domain as usize;
-        // A core that is not in the list is given another's record here, to no effect, and leaves it.
-        let place = named % MAX_CORES;
-        let core = cores[place];
-        let turned = cores::turn(
+        let reply = take(
             g,
             tags,
             valid,
             dirty,
             words,
-            last.domains,
-            MAX_CORES,
-            core,
-            named,
-            command.kind,
-            command.argument,
+            &mut domains,
+            &mut cores,
+            command,
         );
-        let after = turned.core;
-        cores[place] = after;
-        last = turned.stepped;
-        let reply = last.reply;
         next = lines::answer(i, reply, out, next);
-        i += 1;
     }
-    lines::domains(g.ways, last.domains, out, next)
+    lines::domains(g.ways, domains, out, next)
 }
 
 // The listing of a file that is not refused, on tables of its lengths.
@@ -99,7 +120,7 @@ fn listing(
         ≡ listing_by g file.now steps out.old }
     ensures upper_bound { result ≤ 393216 }
 {
-    fresh::fresh_tables(g, tags, valid, dirty, words);
+    let _ = fresh::fresh_tables(g, tags, valid, dirty, words);
     let head = lines::head(g, steps, out, 0);
     run(g, file, steps, tags, valid, dirty, words, out, head)
 }
@@ -150,9 +171,8 @@ pub fn list(
         (tables_of tags.old valid.old dirty.old words.old) }
     ensures prefix_len { IsPrefixLen result out.new }
 {
-    let number = tracefile::refusal(file);
-    if number != 0 {
-        return lines::refused(number, out, 0);
+    match tracefile::refusal(file) {
+        Ok(()) => list_file(file, tags, valid, dirty, words, out),
+        Err(refusal) => lines::refused(refusal.number(), out, 0),
     }
-    list_file(file, tags, valid, dirty, words, out)
 }

@@ -3,19 +3,16 @@ ghost use Rattle.std.specs.Prelude.{◌≡◌, [], ◌∷◌, ◌++◌, map, ◌
 ghost use Rattle.listing.specs.Listing.{decimal, line};
 ghost use Rattle.trace.specs.Inside.{written_of, append, end_of};
 
-// Puts bytes at `at`, and answers the place after them.
+// Puts bytes at `at`, and answers the place after them. The output and the place stand side by side, and not in a struct: that is no plainer, since each
+// function would have to say in a clause more that the struct lends the same bytes still.
 fn put(bytes: &[u8], out: &mut [u8], at: usize) -> usize
     requires { at + length bytes.now ≤ length out.old }
     ensures out_after { written_of result out.new ≡ append bytes.now (written_of at out.old) }
     ensures value { result ≡ at + length bytes.now }
 {
-    let count = bytes.len();
-    let mut i = 0;
-    while i < count {
-        out[at + i] = bytes[i];
-        i += 1;
-    }
-    at + count
+    let end = at + bytes.len();
+    out[at..end].copy_from_slice(bytes);
+    end
 }
 
 // Puts a number of two digits, and the byte that ends it.
@@ -67,12 +64,9 @@ pub fn numbers(values: &[u64], out: &mut [u8], at: usize) -> usize
     ensures out_after { written_of result out.new ≡ append (line (map decimal values.now)) (written_of at out.old) }
     ensures upper_bound { result ≤ at + 21 * length values.now }
 {
-    let count = values.len();
     let mut next = at;
-    let mut i = 0;
-    while i < count {
-        next = number(values[i], end_of(i, count), out, next);
-        i += 1;
+    for (i, value) in values.iter().enumerate() {
+        next = number(*value, end_of(i, values.len()), out, next);
     }
     next
 }

@@ -2,6 +2,7 @@
 use mathlib.Core.Path.{◌≡◌, ap, ◌∙◌}
 use mathlib.Core.Bool.{Bool, cond, not}
 use mathlib.Core.List.{List}
+use mathlib.Core.Logic.{◌⊎◌, inl, inr}
 use Prim.Native.Nat.{ℕ, ◌+◌, ◌*◌, ◌≤◌, ◌<◌}
 use native.Mathlib.Nat.{suc-ne-zero}
 use lib.Dec.{eqb, ltb}
@@ -22,13 +23,18 @@ bad_short file h = rw (lt-ltb (length file) 8 h)
 
 -- A file of 8 bytes or more names n steps; then its length, the steps' number and the geometry decide.
 module _ (file : List ℕ) {n : ℕ} (named : n ≡ step_count file) (long : 8 ≤ length file) where
-  pub bad_length : (length file ≡ 8 + 10 * n → ⊥) → 10 ≡ file_refusal file
+  bad_length : (length file ≡ 8 + 10 * n → ⊥) → 10 ≡ file_refusal file
   unfolding file_refusal bad_file
   bad_length e = rw (le-ltb (length file) 8 long, ← named, ne_eqb (length file) (8 + 10 * n) e)
 
-  pub bad_steps : length file ≡ 8 + 10 * n → max_steps < n → 10 ≡ file_refusal file
+  bad_steps : length file ≡ 8 + 10 * n → max_steps < n → 10 ≡ file_refusal file
   unfolding file_refusal bad_file
   bad_steps e m = rw (le-ltb (length file) 8 long, ← named, eq-eqb (length file) (8 + 10 * n) e, lt-ltb max_steps n m)
+
+  -- neither
+  pub bad_size : (length file ≡ 8 + 10 * n → ⊥) ⊎ ((length file ≡ 8 + 10 * n) × (max_steps < n)) → 10 ≡ file_refusal file
+  bad_size (inl e) = bad_length e
+  bad_size (inr m) = bad_steps m.0 m.1
 
   -- then the geometry that it names
   module _ {g : Geometry} (whole : length file ≡ 8 + 10 * n) (few : n ≤ max_steps) (is : g ≡ geometry_of file) where

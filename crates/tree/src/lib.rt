@@ -13,7 +13,7 @@ ghost use Rattle.tree.specs.Calls.{victim_of, touch_of, change_of, reset_of, own
 pub fn victim(ways: usize, word: u64, map: u16) -> usize
     ensures { result ≡ victim_of ways word map }
 {
-    if waymap::takes(ways, map) {} else {
+    if !waymap::takes(ways, map) {
         return 0;
     }
     let nodes = nodes::nodes_of(ways, map);
@@ -25,10 +25,10 @@ pub fn victim(ways: usize, word: u64, map: u16) -> usize
 pub fn touch(ways: usize, word: u64, map: u16, way: usize) -> u64
     ensures { result ≡ touch_of ways word map way }
 {
-    if waymap::takes(ways, map) {} else {
+    if !waymap::takes(ways, map) {
         return word;
     }
-    if waymap::has(map, way) {} else {
+    if !waymap::has(map, way) {
         return word;
     }
     path::touched(ways, word, map, way)
@@ -38,10 +38,7 @@ pub fn touch(ways: usize, word: u64, map: u16, way: usize) -> u64
 pub fn change(ways: usize, old: u16, new: u16) -> u64
     ensures { result ≡ change_of ways old new }
 {
-    if waymap::takes(ways, old) {} else {
-        return 0;
-    }
-    if waymap::takes(ways, new) {} else {
+    if !waymap::takes(ways, old) || !waymap::takes(ways, new) {
         return 0;
     }
     let before = nodes::nodes_of(ways, old);
@@ -60,7 +57,7 @@ pub fn reset(word: u64, nodes: u64) -> u64
 pub fn own(ways: usize, word: u64, map: u16) -> u64
     ensures { result ≡ own_of ways word map }
 {
-    if waymap::takes(ways, map) {} else {
+    if !waymap::takes(ways, map) {
         return 0;
     }
     let nodes = nodes::nodes_of(ways, map);
@@ -71,10 +68,7 @@ pub fn own(ways: usize, word: u64, map: u16) -> u64
 pub fn shares(ways: usize, map: u16, other: u16) -> bool
     ensures { result ≡ shares_of ways map other }
 {
-    if waymap::takes(ways, map) {} else {
-        return false;
-    }
-    if waymap::takes(ways, other) {} else {
+    if !waymap::takes(ways, map) || !waymap::takes(ways, other) {
         return false;
     }
     let mine = nodes::nodes_of(ways, map);

@@ -12,7 +12,7 @@ fn bit_at(word: u64, i: usize) -> usize
     ((word >> i) % 2) as usize
 }
 
-// The way that a word's bits lead to.
+// The way that a word's bits lead to. (The loop goes from each node to a child: no index is counted in it.)
 pub fn walked(ways: usize, word: u64) -> usize
     requires { Sized ways }
     ensures { result ≡ Tree.walked ways (bit word) }

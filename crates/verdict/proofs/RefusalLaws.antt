@@ -1,6 +1,5 @@
 -- The numbers by which a step is turned down.
 use mathlib.Core.Path.{◌≡◌, refl, sym, ap, ap₂, ◌∙◌}
-use mathlib.Core.Logic.{◌⊎◌, inl, inr}
 use mathlib.Core.List.{[], ◌∷◌}
 use lib.ListN.{get_or}
 use mathlib.Core.Bool.{Bool, true, false, cond, not, ◌&&◌, ◌||◌}
@@ -17,9 +16,12 @@ use Rattle.waymap.proofs.BitLaws.{bit_none, bit_and_lem, bit_or_lem}
 use Rattle.waymap.proofs.WordLaws.{bit_word_in, from_bits}
 use Rattle.waymap.proofs.WayLaws.{any_ext, any_last, any_bits}
 use Rattle.replacement.specs.Rule.{rule_of}
-use Rattle.replacement.specs.Calls.{answer_of, in_limits, shares_of}
-use Rattle.replacement.specs.declared.Reply.{Reply}
-use Rattle.replacement.specs.declared.Reply.TheVariants.{Way, Done, OutsideLimits, OutOfReach, SharedNode}
+use Rattle.std.specs.Prelude.{Result, Ok, Err}
+use Rattle.std.specs.Result.{is_err}
+use Rattle.replacement.specs.Calls.{in_limits, shares_of}
+use Rattle.replacement.specs.Answer.{answer_of}
+use Rattle.replacement.specs.declared.Refusal.{Refusal}
+use Rattle.replacement.proofs.ReplyLaws.{some_number, first_same}
 use Rattle.policy.specs.declared.Maps.{Maps}
 use Rattle.policy.proofs.ReadLaws.{hit_small, fill_within}
 use Rattle.geometry.proofs.GeometryLaws.{sizes_passed}
@@ -75,30 +77,21 @@ common_is hit held f h e =
 
 -- ---- number 9, for one other domain
 
--- what the answer to a conflict says
+-- what the answer to a conflict says: of a call within the limits, whether a node is shared
 module _ (W rule fill other : ℕ) (limits : in_limits W rule ≡ true) (f : reaches W fill ≡ false) (o : reaches W other ≡ false) where
-  shares_answer : (q : Reply) → answer_of q ≡ shares_of W rule fill other → answer_of q ≡ cond ((rule_of rule W).shares fill other) 9 0 ∷ []
+  shares_answer : (q : Result (Unit {0}) Refusal) → answer_of q ≡ shares_of W rule fill other
+      → answer_of q ≡ cond ((rule_of rule W).shares fill other) 9 0 ∷ []
   unfolding shares_of
   shares_answer q e = rw (limits, f, o) at e
 
-  pub shared_is : (q : Reply) → q ≡ SharedNode → answer_of q ≡ shares_of W rule fill other → true ≡ (rule_of rule W).shares fill other
-  shared_is q t e = say ((rule_of rule W).shares fill other) (rw t at (shares_answer q e))
+  pub shared_is : (q : Result (Unit {0}) Refusal) → answer_of q ≡ shares_of W rule fill other → is_err q ≡ (rule_of rule W).shares fill other
+  shared_is q e = say ((rule_of rule W).shares fill other) q (shares_answer q e)
     where
-      say : (s : Bool) → answer_of SharedNode ≡ cond s 9 0 ∷ [] → true ≡ s
-      say true e = refl
-      say false e = let z : ◌≡◌ {A = ℕ} 9 0 = cc in absurd (omega arith)
-
-  pub unshared_is : (q : Reply) → (q ≡ SharedNode → ⊥) → answer_of q ≡ shares_of W rule fill other
-      → false ≡ (rule_of rule W).shares fill other
-  unshared_is q t e = say ((rule_of rule W).shares fill other) q t (shares_answer q e)
-    where
-      say : (s : Bool) (q : Reply) → (q ≡ SharedNode → ⊥) → answer_of q ≡ cond s 9 0 ∷ [] → false ≡ s
-      say false q t e = refl
-      say true (Way w) t e = let z : ◌≡◌ {A = ℕ} 0 9 = cc in absurd (omega arith)
-      say true Done t e = let z : ◌≡◌ {A = ℕ} 0 9 = cc in absurd (omega arith)
-      say true OutsideLimits t e = let z : ◌≡◌ {A = ℕ} 1 9 = cc in absurd (omega arith)
-      say true OutOfReach t e = let z : ◌≡◌ {A = ℕ} 5 9 = cc in absurd (omega arith)
-      say true SharedNode t e = absurd (t refl)
+      say : (s : Bool) (q : Result (Unit {0}) Refusal) → answer_of q ≡ cond s 9 0 ∷ [] → is_err q ≡ s
+      say true (Ok x) e = let z : ◌≡◌ {A = ℕ} 0 9 = cc in absurd (omega arith)
+      say true (Err r) e = refl
+      say false (Ok x) e = refl
+      say false (Err r) e = absurd (some_number r (first_same e))
 
 -- a policy as read stays within the ways
 pub policy_within : (W : ℕ) (all : Policies) (e : ℕ) {p : Maps} → p ≡ read_by W all e → reaches W p.fill ≡ false

@@ -1,16 +1,17 @@
 // What numbers 5 to 9 look at.
 ghost use Rattle.std.specs.Prelude.{◌≡◌, true, false, cond, not, ◌&&◌, ◌<◌, eqb};
 ghost use Rattle.waymap.specs.Bits.{word, reaches};
+ghost use Rattle.command.specs.Refusal.{number_in};
 ghost use Rattle.replacement.specs.Rule.{rule_of};
 ghost use Rattle.replacement.specs.Calls.{in_limits};
 ghost use Rattle.policy.specs.Policy.{as_read, bad_argument};
 ghost use Rattle.verdict.specs.Refusal.{held_elsewhere, shares_way, shares_node, use_refusal, sharing_refusal, policy_refusal};
 ghost use Rattle.domains.specs.Calls.{read_by};
 
+use command::Refusal;
 use domains::{Counts, Policies};
 use geometry::Geometry;
 use policy::Maps;
-use replacement::Reply;
 
 // A domain's policy as read.
 fn read_by(ways: usize, policies: Policies, d: usize) -> Maps
@@ -20,18 +21,18 @@ fn read_by(ways: usize, policies: Policies, d: usize) -> Maps
     policy::as_read(ways, policies.maps[d])
 }
 
-// Of an access or a flush, given the domain's own maps and counts: numbers 6 and 7; 0 for neither.
-pub fn line_refusal(ways: usize, stored: Maps, counts: Counts) -> usize
-    ensures { result ≡ use_refusal (as_read ways stored) counts }
+// Of an access or a flush, given the domain's own maps and counts: numbers 6 and 7.
+pub fn line_refusal(ways: usize, stored: Maps, counts: Counts) -> Result<(), Refusal>
+    ensures { number_in result ≡ use_refusal (as_read ways stored) counts }
 {
     let read = policy::as_read(ways, stored);
     if read.hit == 0 {
-        return 6;
+        return Err(Refusal::NoWays);
     }
     if domains::is_full(counts) {
-        return 7;
+        return Err(Refusal::FullCount);
     }
-    0
+    Ok(())
 }
 
 // The ways of domain `e`'s hit map, none for domain `d` itself.
@@ -40,10 +41,10 @@ fn ways_of(ways: usize, policies: Policies, d: usize, e: usize) -> u16
     ensures { result ≡ cond (eqb d e) 0 (read_by ways policies e).hit }
 {
     if d == e {
-        return 0;
+        0
+    } else {
+        read_by(ways, policies, e).hit
     }
-    let other = read_by(ways, policies, e);
-    other.hit
 }
 
 // The ways that other domains hold.
@@ -51,10 +52,8 @@ pub fn held_elsewhere(ways: usize, policies: Policies, d: usize) -> u16
     ensures { result ≡ word 16 (held_elsewhere (read_by ways policies) d) }
 {
     let mut held = 0;
-    let mut e = 0;
-    while e < 16 {
-        held = held | ways_of(ways, policies, d, e);
-        e += 1;
+    for e in 0..16 {
+        held |= ways_of(ways, policies, d, e);
     }
     held
 }
@@ -67,7 +66,7 @@ fn shares_way(ways: usize, policies: Policies, d: usize, new: Maps) -> bool
     new.hit & held_elsewhere(ways, policies, d) != 0
 }
 
-// Whether another domain `e` has a node of the fill map.
+// Whether another domain `e` has a node of the fill map: within the limits two maps are refused for nothing else.
 fn has_node(g: Geometry, policies: Policies, d: usize, fill: u16, e: usize) -> bool
     requires rule_value { in_limits g.ways g.rule ≡ true }
     requires fill_value { reaches g.ways fill ≡ false }
@@ -78,11 +77,7 @@ fn has_node(g: Geometry, policies: Policies, d: usize, fill: u16, e: usize) -> b
         return false;
     }
     let other = read_by(g.ways, policies, e);
-    let reply = replacement::conflict(g.ways, g.rule, fill, other.fill);
-    match reply {
-        Reply::SharedNode => true,
-        _ => false,
-    }
+    replacement::conflict(g.ways, g.rule, fill, other.fill).is_err()
 }
 
 // Number 9.
@@ -91,34 +86,31 @@ fn shares_node(g: Geometry, policies: Policies, d: usize, new: Maps) -> bool
     requires fill_value { reaches g.ways new.fill ≡ false }
     ensures { result ≡ shares_node (rule_of g.rule g.ways) (read_by g.ways policies) d new }
 {
-    let fill = new.fill;
-    let mut e = 0;
-    while e < 16 {
-        if has_node(g, policies, d, fill, e) {
+    for e in 0..16 {
+        if has_node(g, policies, d, new.fill, e) {
             return true;
         }
-        e += 1;
     }
     false
 }
 
-// Numbers 8 and 9, within the limits; 0 for neither.
-fn sharing_refusal(g: Geometry, policies: Policies, d: usize, argument: u64) -> usize
+// Numbers 8 and 9, within the limits.
+fn sharing_refusal(g: Geometry, policies: Policies, d: usize, argument: u64) -> Result<(), Refusal>
     requires rule_value { in_limits g.ways g.rule ≡ true }
     requires argument_value { bad_argument g.ways argument ≡ false }
-    ensures { result ≡ sharing_refusal g (read_by g.ways policies) d argument }
+    ensures { number_in result ≡ sharing_refusal g (read_by g.ways policies) d argument }
 {
     let new = policy::new_maps(argument);
     if shares_way(g.ways, policies, d, new) {
-        return 8;
+        return Err(Refusal::SharedWay);
     }
     if shares_node(g, policies, d, new) {
-        return 9;
+        return Err(Refusal::SharedNode);
     }
-    0
+    Ok(())
 }
 
-// Numbers 5, 7, 8 and 9, within the limits; 0 for none.
+// Numbers 5, 7, 8 and 9, within the limits.
 pub fn change_refusal(
     g: Geometry,
     policies: Policies,
@@ -126,15 +118,15 @@ pub fn change_refusal(
     drops: usize,
     d: usize,
     argument: u64,
-) -> usize
+) -> Result<(), Refusal>
     requires { in_limits g.ways g.rule ≡ true }
-    ensures { result ≡ policy_refusal g (read_by g.ways policies) counts drops d argument }
+    ensures { number_in result ≡ policy_refusal g (read_by g.ways policies) counts drops d argument }
 {
     if policy::bad_argument(g.ways, argument) {
-        return 5;
+        return Err(Refusal::Argument);
     }
     if domains::overflows(argument, drops, counts) {
-        return 7;
+        return Err(Refusal::FullCount);
     }
     sharing_refusal(g, policies, d, argument)
 }

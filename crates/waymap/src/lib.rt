@@ -11,10 +11,7 @@ ghost use Rattle.waymap.specs.Ways.{is_ways, takes as takes_map};
 pub fn has(map: u16, way: usize) -> bool
     ensures { result ≡ bit map way }
 {
-    if 16 <= way {
-        return false;
-    }
-    (map >> way) % 2 == 1
+    way < 16 && (map >> way) % 2 == 1
 }
 
 // The map of one way alone, empty for way 16 or more.
@@ -41,30 +38,21 @@ pub fn all(ways: usize) -> u16
 pub fn fits(map: u16, ways: usize) -> bool
     ensures { result ≡ not (reaches ways map) }
 {
-    if 16 <= ways {
-        return true;
-    }
-    map >> ways == 0
+    16 <= ways || map >> ways == 0
 }
 
 // Whether a cache may have so many ways.
 pub fn is_ways(ways: usize) -> bool
     ensures { result ≡ is_ways ways }
 {
-    match ways {
-        2 | 4 | 8 | 16 => true,
-        _ => false,
-    }
+    matches!(ways, 2 | 4 | 8 | 16)
 }
 
 // Whether a cache may have so many ways, and every way of the map is below that.
 pub fn takes(ways: usize, map: u16) -> bool
     ensures { result ≡ takes_map ways map }
 {
-    if is_ways(ways) {
-        return fits(map, ways);
-    }
-    false
+    is_ways(ways) && fits(map, ways)
 }
 
 // The lowest way of the map, 16 where it is empty.

@@ -4,45 +4,35 @@ use Rattle.domains.specs.Domains.{counted}
 use Rattle.domains.proofs.CountLaws.{unspent, rest_stays}
 use Rattle.domains.proofs.counted.Goals as goal
 
-pub overflow_add-next : goal.overflow_add-next
-overflow_add-next c =
-    omega (arith, c.struct_known-1.given.0, (unspent c.args.c c.requires).hits)
+pub overflow_add-result : goal.overflow_add-result
+overflow_add-result c = omega (arith, c.well_formed, (unspent c.args.c c.requires).hits)
 
-pub overflow_add-next-in-Fill : goal.overflow_add-next-in-Fill
-overflow_add-next-in-Fill c =
-    omega (arith, c.struct_known-in-Fill-1.given.1.0, (unspent c.args.c c.requires).misses)
+pub overflow_add-result-in-Fill : goal.overflow_add-result-in-Fill
+overflow_add-result-in-Fill c = omega (arith, c.well_formed, (unspent c.args.c c.requires).misses)
 
-pub overflow_add-next-in-Fill-2 : goal.overflow_add-next-in-Fill-2
-overflow_add-next-in-Fill-2 c =
-    omega (arith, c.struct_known-in-Fill-2-1.given.1.1.1.1.1.0, (unspent c.args.c c.requires).fills)
+pub overflow_add-result-in-Fill-2 : goal.overflow_add-result-in-Fill-2
+overflow_add-result-in-Fill-2 c = omega (arith, c.well_formed, (unspent c.args.c c.requires).fills)
 
-pub overflow_add-next-in-Pass : goal.overflow_add-next-in-Pass
-overflow_add-next-in-Pass c =
-    omega (arith, c.struct_known-in-Pass-1.given.1.0, (unspent c.args.c c.requires).misses)
+pub overflow_add-result-in-Pass : goal.overflow_add-result-in-Pass
+overflow_add-result-in-Pass c = omega (arith, c.well_formed, (unspent c.args.c c.requires).misses)
 
-pub overflow_add-next-in-Evict : goal.overflow_add-next-in-Evict
-overflow_add-next-in-Evict c =
-    omega (arith, c.struct_known-in-Evict-1.given.1.0, (unspent c.args.c c.requires).misses)
+pub overflow_add-result-in-Evict : goal.overflow_add-result-in-Evict
+overflow_add-result-in-Evict c = omega (arith, c.well_formed, (unspent c.args.c c.requires).misses)
 
-pub overflow_add-next-in-Evict-2 : goal.overflow_add-next-in-Evict-2
-overflow_add-next-in-Evict-2 c =
-    omega (arith, c.struct_known-in-Evict-2-1.given.1.1.0, (unspent c.args.c c.requires).evicted)
+pub overflow_add-result-in-Evict-2 : goal.overflow_add-result-in-Evict-2
+overflow_add-result-in-Evict-2 c = omega (arith, c.well_formed, (unspent c.args.c c.requires).evicted)
 
 pub with_dirty-requires : goal.with_dirty-requires
-with_dirty-requires c =
-    omega (arith, c.struct_known-in-Evict-2-1.given.1.1.1.0, (unspent c.args.c c.requires).written)
+with_dirty-requires c = omega (arith, c.well_formed, (unspent c.args.c c.requires).written)
 
-pub overflow_add-fills : goal.overflow_add-fills
-overflow_add-fills c =
-    omega (arith, c.struct_known-in-Evict-3-1.given.1.1.1.1.1.0, (unspent c.args.c c.requires).fills)
+pub overflow_add-result-in-Evict-3 : goal.overflow_add-result-in-Evict-3
+overflow_add-result-in-Evict-3 c = omega (arith, c.well_formed, (unspent c.args.c c.requires).fills)
 
 pub with_dirty-requires-in-Flush : goal.with_dirty-requires-in-Flush
-with_dirty-requires-in-Flush c =
-    omega (arith, c.well_formed, (unspent c.args.c c.requires).written)
+with_dirty-requires-in-Flush c = omega (arith, c.well_formed, (unspent c.args.c c.requires).written)
 
-pub overflow_add-next-in-Flush : goal.overflow_add-next-in-Flush
-overflow_add-next-in-Flush c =
-    omega (arith, c.struct_known-in-Flush-1.given.1.1.1.1.0, (unspent c.args.c c.requires).flushed)
+pub overflow_add-result-in-Flush : goal.overflow_add-result-in-Flush
+overflow_add-result-in-Flush c = omega (arith, c.well_formed, (unspent c.args.c c.requires).flushed)
 
 pub returns-in-Hit : goal.returns-in-Hit
 unfolding counted

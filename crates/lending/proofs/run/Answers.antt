@@ -1,5 +1,5 @@
 -- `lending::run` meets its contract.
-use Prim.Native.Nat.{◌-◌, ◌<◌}
+use Prim.Native.Nat.{◌<◌}
 use native.Mathlib.Omega.{arith}
 use Rattle.script.proofs.ScriptLaws.{line_grows}
 use Rattle.lending.proofs.run.Goals as goal
@@ -16,9 +16,6 @@ slice_bounds-do_line-count c = omega (arith, further (goal.at.slice_bounds-do_li
 
 pub slice_bounds-do_line-start : goal.slice_bounds-do_line-start
 slice_bounds-do_line-start c = omega (arith, further (goal.at.slice_bounds-do_line-start c).After-line_after-next)
-
-pub do_line-bench-requires : goal.do_line-bench-requires
-do_line-bench-requires c = omega (arith, further (goal.at.do_line-bench-requires c).After-line_after-next)
 
 pub loop-from-smaller : goal.loop-from-smaller
 loop-from-smaller c = omega (arith, further (goal.at.loop-from-smaller c).After-line_after-next)

@@ -29,6 +29,7 @@ returns-then-is_at c =
     let here = next_matches inv some low c.is_at.ensures c.if-is_at.true in
     record {
       way_value = next_way inv some low here;
+      way_bound = next_lt inv some low;
       visited_value = ap₂ (λ (a r : ℕ). a - r) c.count_ways-all.ensures c.count_ways.ensures ∙ next_visited inv some low here;
     }
 
@@ -48,5 +49,6 @@ returns c =
     let inv = c.loop-left.invariant in
     record {
       way_value = end_way inv c.loop-left-test.false;
+      way_bound = tt;
       visited_value = c.count_ways-all.ensures ∙ end_visited inv c.loop-left-test.false;
     }

@@ -1,5 +1,4 @@
 -- `lookup::find` meets its contract. The invariant: what is left of the hit map, none of whose other ways is hit. The measure: how many remain.
-use Prim.Native.Nat.{◌-◌}
 use Rattle.waymap.specs.Bits.{bit, count}
 use Rattle.lookup.proofs.VisitLaws.{Left}
 use Rattle.lookup.proofs.find.Given as goal

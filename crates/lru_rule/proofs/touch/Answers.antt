@@ -7,26 +7,26 @@ use Rattle.waymap.proofs.NumberLaws.{takes_sized, takes_way}
 use Rattle.lru_rule.specs.Calls.{touch_of}
 use Rattle.lru_rule.proofs.CallLaws.{rank_given, untouched, touch_given}
 use Rattle.lru_rule.proofs.touch.Goals as goal
-use Rattle.lru_rule.proofs.touch.Goals.{Then-takes}
+use Rattle.lru_rule.proofs.touch.Goals.{Else-not-takes}
 
-pub returns-else-takes : goal.returns-else-takes
+pub returns-then-not-takes : goal.returns-then-not-takes
 unfolding touch_of
-returns-else-takes c = rw (sym c.takes.ensures ∙ c.if-takes.false)
+returns-then-not-takes c = rw (sym c.takes.ensures ∙ c.if-not-takes.true)
 
 -- Behind its test the call is within the limits.
-taken : (c : Then-takes) → takes c.args.ways c.args.map ≡ true
-taken c = sym c.takes.ensures ∙ c.if-takes.true
+taken : (c : Else-not-takes) → takes c.args.ways c.args.map ≡ true
+taken c = sym c.takes.ensures ∙ c.if-not-takes.false
 
-pub returns-else-has : goal.returns-else-has
-returns-else-has c = untouched _ _ _ (taken (goal.at.returns-else-has c).Then-takes) _ (sym c.has.ensures ∙ c.if-has.false)
+pub returns-then-not-has : goal.returns-then-not-has
+returns-then-not-has c = untouched _ _ _ (taken (goal.at.returns-then-not-has c).Else-not-takes) _ (sym c.has.ensures ∙ c.if-not-has.true)
 
 pub read-order-requires : goal.read-order-requires
-read-order-requires c = takes_sized _ _ (taken (goal.at.read-order-requires c).Then-takes)
+read-order-requires c = takes_sized _ _ (taken (goal.at.read-order-requires c).Else-not-takes)
 
 pub touched-requires : goal.touched-requires
 touched-requires c =
-    let t = taken (goal.at.touched-requires c).Then-takes in
-    let h = takes_way _ _ t c.ranges.map.fits c.args.way (sym c.has.ensures ∙ c.if-has.true) in
+    let t = taken (goal.at.touched-requires c).Else-not-takes in
+    let h = takes_way _ _ t c.ranges.map.fits c.args.way (sym c.has.ensures ∙ c.if-not-has.false) in
     record {
       sized = takes_sized _ _ t;
       way_bound = omega (arith, h, (takes_sized _ _ t).most);
@@ -35,5 +35,5 @@ touched-requires c =
 
 pub returns : goal.returns
 returns c =
-    touch_given _ _ _ (taken (goal.at.returns c).Then-takes) _ c.ranges.map.fits (sym c.has.ensures ∙ c.if-has.true)
+    touch_given _ _ _ (taken (goal.at.returns c).Else-not-takes) _ c.ranges.map.fits (sym c.has.ensures ∙ c.if-not-has.false)
     c.read-order.ensures c.touched.ensures c.written.ensures

@@ -3,18 +3,20 @@ use Rattle.purge.specs.Purge.{keeps_by}
 use Rattle.purge.proofs.KeepLaws.{stays_own, stays_other}
 use Rattle.purge.proofs.stays.Goals as goal
 
-pub returns-then-named-domain : goal.returns-then-named-domain
+pub returns-then-domain-chosen : goal.returns-then-domain-chosen
 unfolding keeps_by
-returns-then-named-domain c = rw c.in-Plain.is (stays_own c.args.domain _ c.if-named-domain.true)
+returns-then-domain-chosen c =
+    rw (c.in-Ok-Plain.is, rw c.in-Ok-Plain.is at c.in-Ok-Plain.field-0-is) (stays_own c.args.chosen _ c.if-domain-chosen.true)
 
-pub returns-else-named-domain : goal.returns-else-named-domain
+pub returns-else-domain-chosen : goal.returns-else-domain-chosen
 unfolding keeps_by
-returns-else-named-domain c = rw c.in-Plain.is (stays_other c.args.domain _ c.if-named-domain.false)
+returns-else-domain-chosen c =
+    rw (c.in-Ok-Plain.is, rw c.in-Ok-Plain.is at c.in-Ok-Plain.field-0-is) (stays_other c.args.chosen _ c.if-domain-chosen.false)
 
-pub returns-in-Select : goal.returns-in-Select
+pub returns-in-Ok-Select : goal.returns-in-Ok-Select
 unfolding keeps_by
-returns-in-Select c = rw c.in-Select.is
+returns-in-Ok-Select c = rw (c.in-Ok-Select.is, rw c.in-Ok-Select.is at c.in-Ok-Select.field-0-is)
 
-pub returns-in-Refused : goal.returns-in-Refused
+pub returns-in-Err : goal.returns-in-Err
 unfolding keeps_by
-returns-in-Refused c = rw c.in-Refused.is
+returns-in-Err c = rw c.in-Err.is

@@ -1,64 +1,40 @@
 -- `replacement::change_of` meets its contract.
-use mathlib.Core.Path.{◌≡◌, sym, ap, ◌∙◌}
-use mathlib.Core.Bool.{true, not, ◌&&◌}
-use Rattle.waymap.specs.Bits.{reaches}
-use Rattle.replacement.specs.Calls.{in_limits}
+use mathlib.Core.Path.{ap}
+use borrow.Author.Tests.{eq-eqb, ne_eqb}
 use Rattle.replacement.specs.Change.{change_of}
 use Rattle.replacement.specs.declared.Change.TheVariants.{Clear, Raise, Age}
-use Rattle.replacement.proofs.CallLaws.{two, either_reach}
-use borrow.Author.Tests.{eq-eqb, ne_eqb}
-use Rattle.tree.proofs.change.Reads as change-reads'
+use Rattle.replacement.proofs.AdmitLaws.{admitted_gives, is_zero, is_one, is_two}
+use Rattle.replacement.proofs.CallLaws.{either_reach, change_refused}
 use Rattle.replacement.proofs.change_of.Goals as goal
-use Rattle.replacement.proofs.change_of.Goals.{Then-fits}
 
-pub returns-else-in_limits : goal.returns-else-in_limits
-unfolding change_of
-returns-else-in_limits c = rw (sym c.in_limits.ensures ∙ c.if-in_limits.false)
+pub returns-in_default : goal.returns-in_default
+returns-in_default c = change_refused _ _ _ _ c.in_default.ensures
 
-pub returns-else-fits : goal.returns-else-fits
+pub returns-in-Tree : goal.returns-in-Tree
 unfolding change_of
-returns-else-fits c =
+returns-in-Tree c =
     let a = c.args in
-    rw (
-      sym c.in_limits.ensures ∙ c.if-in_limits.true,
-      either_reach a.ways a.old a.new
-          ∙ sym c.fits.ensures ∙ c.if-fits.false,
-    )
+    let past = admitted_gives _ _ _ c.in-Ok.ensures in
+    rw (past.name.limits, either_reach a.ways a.old a.new, past.reach, is_zero past.name c.in-Tree.is) (ap Clear c.change.ensures)
 
--- Behind its two tests the maps are within the limits.
-limits : (c : Then-fits) → in_limits c.args.ways c.args.rule ≡ true
-limits c = sym c.in_limits.ensures ∙ c.if-in_limits.true
-
-reach : (c : Then-fits) → (not (reaches c.args.ways c.args.old) && not (reaches c.args.ways c.args.new)) ≡ true
-reach c = either_reach c.args.ways c.args.old c.args.new ∙ sym c.fits.ensures ∙ c.if-fits.true
-
-pub returns-then-rule-eq0 : goal.returns-then-rule-eq0
+pub returns-in-Nru : goal.returns-in-Nru
 unfolding change_of
-returns-then-rule-eq0 c =
-    let past = (goal.at.returns-then-rule-eq0 c).Then-fits in
-    rw (limits past, reach past, c.if-rule-eq0.true) (ap Clear c.change.ensures)
-
-pub returns-then-rule-eq1 : goal.returns-then-rule-eq1
-unfolding change_of
-returns-then-rule-eq1 c =
-    let past = (goal.at.returns-then-rule-eq1 c).Then-fits in
-    rw (limits past, reach past, c.if-rule-eq1.true) (ap Raise c.change-then-rule-eq1.ensures)
-
-pub returns-then-old-new : goal.returns-then-old-new
-unfolding change_of
-returns-then-old-new c =
-    let past = (goal.at.returns-then-old-new c).Then-fits in
+returns-in-Nru c =
     let a = c.args in
-    rw (limits past, reach past, two _ _ (limits past) c.if-rule-eq0.false c.if-rule-eq1.false, eq-eqb a.old a.new c.if-old-new.true)
+    let past = admitted_gives _ _ _ c.in-Ok.ensures in
+    rw (past.name.limits, either_reach a.ways a.old a.new, past.reach, is_one past.name c.in-Nru.is) (ap Raise c.change-in-Nru.ensures)
 
-pub returns : goal.returns
+pub returns-in-Lru : goal.returns-in-Lru
 unfolding change_of
-returns c =
-    let past = (goal.at.returns c).Then-fits in
+returns-in-Lru c =
     let a = c.args in
-    rw (
-      limits past,
-      reach past,
-      two _ _ (limits past) c.if-rule-eq0.false c.if-rule-eq1.false,
-      ne_eqb a.old a.new c.if-old-new.false,
-    ) (ap (Age a.ways) c.change-2.ensures)
+    let past = admitted_gives _ _ _ c.in-Ok.ensures in
+    rw (past.name.limits, either_reach a.ways a.old a.new, past.reach, is_two past.name c.in-Lru.is, eq-eqb a.old a.new c.if-old-new.true)
+
+pub returns-in-Lru-2 : goal.returns-in-Lru-2
+unfolding change_of
+returns-in-Lru-2 c =
+    let a = c.args in
+    let past = admitted_gives _ _ _ c.in-Ok.ensures in
+    rw (past.name.limits, either_reach a.ways a.old a.new, past.reach, is_two past.name c.in-Lru.is, ne_eqb a.old a.new c.if-old-new.false)
+    (ap (Age a.ways) c.change-in-Lru-2.ensures)

@@ -1,5 +1,4 @@
 -- `replacement::changed` meets its contract.
-use Rattle.tree.proofs.reset.Reads as reset-reads'
 use Rattle.replacement.proofs.changed.Goals as goal
 
 pub returns-in-Clear : goal.returns-in-Clear

@@ -1,46 +1,25 @@
 -- `replacement::conflict` meets its contract.
-use mathlib.Core.Path.{◌≡◌, sym, ◌∙◌}
-use mathlib.Core.Bool.{true, false}
-use lib.Bits.{bit_or}
-use borrow.Author.Tests.{not-true}
-use Rattle.waymap.specs.Bits.{reaches}
-use Rattle.replacement.specs.Calls.{in_limits, shares_of}
-use Rattle.replacement.proofs.CallLaws.{either_reach, no_nodes, shares_given, shares_by_tree}
+use Rattle.std.proofs.lemmas.Result.{err_from_is_err_and}
 use Rattle.replacement.proofs.conflict.Goals as goal
-use Rattle.replacement.proofs.conflict.Goals.{Then-fits}
+use Rattle.replacement.proofs.AdmitLaws.{admitted_gives, is_zero, not_zero}
+use Rattle.replacement.proofs.CallLaws.{shares_refused, no_nodes, shares_given, shares_by_tree}
 
-pub returns-else-in_limits : goal.returns-else-in_limits
-unfolding shares_of
-returns-else-in_limits c = rw (sym c.in_limits.ensures ∙ c.if-in_limits.false)
+pub returns-in_err-admitted : goal.returns-in_err-admitted
+returns-in_err-admitted c =
+    let p = err_from_is_err_and c.from_residual.result c.from_residual.ensures.1 in
+    rw (p.1, p.2) (shares_refused _ _ _ _ c.in_err-admitted.ensures)
 
-pub returns-else-fits : goal.returns-else-fits
-unfolding shares_of
-returns-else-fits c =
-    let a = c.args in
-    rw (
-      sym c.in_limits.ensures ∙ c.if-in_limits.true,
-      either_reach a.ways a.map a.other
-          ∙ sym c.fits.ensures ∙ c.if-fits.false,
-    )
+pub returns-in-Tree : goal.returns-in-Tree
+returns-in-Tree c =
+    let past = admitted_gives _ _ _ c.in_ok-admitted.ensures in
+    shares_by_tree _ _ _ _ past.name.limits past.reach (is_zero past.name c.in-Tree.is) c.shares.ensures c.if-shares.true
 
--- Behind its two tests no call is refused.
-limits : (c : Then-fits) → in_limits c.args.ways c.args.rule ≡ true
-limits c = sym c.in_limits.ensures ∙ c.if-in_limits.true
+pub returns-in-Tree-2 : goal.returns-in-Tree-2
+returns-in-Tree-2 c =
+    let past = admitted_gives _ _ _ c.in_ok-admitted.ensures in
+    shares_by_tree _ _ _ _ past.name.limits past.reach (is_zero past.name c.in-Tree.is) c.shares.ensures c.if-shares.false
 
-reach : (c : Then-fits) → reaches c.args.ways (bit_or c.args.map c.args.other) ≡ false
-reach c = not-true _ (sym c.fits.ensures ∙ c.if-fits.true)
-
-pub returns-then-rule-ne0 : goal.returns-then-rule-ne0
-returns-then-rule-ne0 c =
-    let past = (goal.at.returns-then-rule-ne0 c).Then-fits in
-    shares_given _ _ _ _ (limits past) (reach past) (no_nodes _ _ _ _ c.if-rule-ne0.true)
-
-pub returns-then-shares : goal.returns-then-shares
-returns-then-shares c =
-    let past = (goal.at.returns-then-shares c).Then-fits in
-    shares_by_tree _ _ _ _ (limits past) (reach past) c.if-rule-ne0.false c.shares.ensures c.if-shares.true
-
-pub returns : goal.returns
-returns c =
-    let past = (goal.at.returns c).Then-fits in
-    shares_by_tree _ _ _ _ (limits past) (reach past) c.if-rule-ne0.false c.shares.ensures c.if-shares.false
+pub returns-in-Nru : goal.returns-in-Nru
+returns-in-Nru c =
+    let past = admitted_gives _ _ _ c.in_ok-admitted.ensures in
+    shares_given _ _ _ _ past.name.limits past.reach (no_nodes _ _ _ _ (not_zero past.name c.in-Nru.is))

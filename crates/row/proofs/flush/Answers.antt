@@ -4,22 +4,23 @@ use Rattle.row.specs.Calls.{told, flush_of}
 use Rattle.row.proofs.WorkLaws.{flush_hit, flush_absent}
 use Rattle.row.proofs.flush.Goals as goal
 
-pub returns-else-is_ways : goal.returns-else-is_ways
+pub returns-then-not-is_ways : goal.returns-then-not-is_ways
 unfolding flush_of
-returns-else-is_ways c = rw (sym c.is_ways.ensures ∙ c.if-is_ways.false)
+returns-then-not-is_ways c = rw (sym c.is_ways.ensures ∙ c.if-not-is_ways.true)
 
-pub returns-then-way-ways : goal.returns-then-way-ways
+pub returns-in-Some : goal.returns-in-Some
 unfolding flush_of
-returns-then-way-ways c =
+returns-in-Some c =
     let a = c.args in
-    rw ((sym c.is_ways.ensures ∙ c.if-is_ways.true), ← c.as_read-read.ensures)
+    let found = c.find-found.ensures in
+    rw ((sym c.is_ways.ensures ∙ c.if-not-is_ways.false), ← c.as_read-read.ensures)
     (ap told
-    (flush_hit c.as_read-read.result a.tag a.tags.now a.lines c.find-found.ensures.way_value c.if-way-ways.true
-    c.has-dirty.ensures c.flushed.ensures))
+    (flush_hit c.as_read-read.result a.tag a.tags.now a.lines (rw c.in-Some.is at found.way_value) (rw c.in-Some.is at found.way_bound)
+    c.has.ensures c.flushed.ensures))
 
-pub returns : goal.returns
+pub returns-in-None : goal.returns-in-None
 unfolding flush_of
-returns c =
+returns-in-None c =
     let a = c.args in
-    rw ((sym c.is_ways.ensures ∙ c.if-is_ways.true), ← c.as_read-read.ensures)
-    (ap told (flush_absent c.as_read-read.result a.tag a.tags.now a.lines c.find-found.ensures.way_value c.if-way-ways.false))
+    rw ((sym c.is_ways.ensures ∙ c.if-not-is_ways.false), ← c.as_read-read.ensures)
+    (ap told (flush_absent c.as_read-read.result a.tag a.tags.now a.lines (rw c.in-None.is at c.find-found.ensures.way_value)))

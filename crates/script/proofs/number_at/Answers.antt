@@ -1,20 +1,20 @@
--- `script::number_at` meets its contract. The invariant: the bytes to come make the whole.
-use Prim.Native.Nat.{◌-◌}
-use Rattle.script.proofs.ScriptLaws.{read_begin, read_turned, read_space, read_end}
+-- `script::number_at` meets its contract.
+use mathlib.Core.Path.{◌∙◌}
+use Rattle.script.proofs.ScriptLaws.{read_begin, read_turned, read_space, read_end, number_rest}
 use Rattle.script.proofs.number_at.Goals as goal
 
-pub loop-i-init : goal.loop-i-init
-loop-i-init c = read_begin c.args.line.now c.args.from
+pub loop-byte-init : goal.loop-byte-init
+loop-byte-init c = read_begin c.rest-byte-items.result.now 0
 
-pub bounds-line-i : goal.bounds-line-i
-bounds-line-i c = c.loop-i-test.true
+pub loop-byte-preserved : goal.loop-byte-preserved
+loop-byte-preserved c =
+    read_turned c.loop-byte.invariant c.loop-byte-test.true c.if-byte-eq32.false c.joined-n.ensures
 
-pub returns-then-line-i-eq32 : goal.returns-then-line-i-eq32
-returns-then-line-i-eq32 c = read_space c.loop-i.invariant c.loop-i-test.true c.if-line-i-eq32.true
+pub returns-then-byte-eq32 : goal.returns-then-byte-eq32
+returns-then-byte-eq32 c =
+    read_space c.loop-byte.invariant c.loop-byte-test.true c.if-byte-eq32.true
+    ∙ number_rest c.args.line.now c.args.place c.rest-byte-items.ensures
 
-pub loop-i-preserved : goal.loop-i-preserved
-loop-i-preserved c =
-    read_turned c.loop-i.invariant c.loop-i-test.true c.if-line-i-eq32.false c.joined-n.ensures
-
-pub returns : goal.returns
-returns c = read_end c.loop-i.invariant c.loop-i-test.false
+pub returns-after-loop-byte : goal.returns-after-loop-byte
+returns-after-loop-byte c =
+    read_end c.loop-byte.invariant c.loop-byte-test.false ∙ number_rest c.args.line.now c.args.place c.rest-byte-items.ensures

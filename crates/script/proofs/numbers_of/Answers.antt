@@ -1,16 +1,14 @@
 -- `script::numbers_of` meets its contract.
-use Rattle.script.proofs.ScriptLaws.{numbers_are}
+use mathlib.Core.Path.{refl}
+use Rattle.script.proofs.ScriptLaws.{gather_begin, gather_turned, gather_end}
 use Rattle.script.proofs.numbers_of.Goals as goal
 
+pub loop-number-init : goal.loop-number-init
+loop-number-init c = gather_begin c.args.line.now _ refl
+
+pub loop-number-preserved : goal.loop-number-preserved
+loop-number-preserved c =
+    gather_turned c.loop-number.invariant c.loop-number-test.true c.number_at.ensures c.behind-place.ensures
+
 pub returns : goal.returns
-returns c =
-    numbers_are c.args.line.now
-    c.behind-first.ensures
-    c.behind-second.ensures
-    c.behind-third.ensures
-    c.behind-fourth.ensures
-    c.number_at.ensures
-    c.number_at-2.ensures
-    c.number_at-3.ensures
-    c.number_at-4.ensures
-    c.number_at-5.ensures
+returns c = gather_end c.loop-number.invariant c.loop-number-test.false

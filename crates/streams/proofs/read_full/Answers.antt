@@ -8,8 +8,8 @@ use Rattle.streams.proofs.read_full.Goals as goal
 pub loop-done-preserved : goal.loop-done-preserved
 loop-done-preserved g c =
     let before = c.loop-done.invariant in
-    let came = c.read_some-n.ensures in
+    let came = c.in-Ok.ensures in
     record {
-      fits = room_for_both _ _ _ _ _ before.fits came.in_bounds.0;
-      bytes = subst (Consumes _ _) (sym (front_and_read _ _ _ _ _ before.fits came.in_bounds.0)) (Consumes-trans _ _ _ _ _ before.bytes came.bytes);
+      fits = room_for_both _ _ _ _ _ before.fits came.bound.0;
+      bytes = subst (Consumes _ _) (sym (front_and_read _ _ _ _ _ before.fits came.bound.0)) (Consumes-trans _ _ _ _ _ before.bytes came.bytes.0);
     }

@@ -3,4 +3,4 @@ use mathlib.Core.Path.{◌∙◌}
 use Rattle.tracefile.proofs.command_at.Goals as goal
 
 pub returns : goal.returns
-returns c = c.command_of.ensures ∙ rw (c.u16_at-code.ensures, c.u64_at-argument.ensures)
+returns c = c.command_of.ensures ∙ rw (c.at-code.ensures, c.at-argument.ensures)

@@ -2,4 +2,4 @@
 use Rattle.tracefile.proofs.steps.Goals as goal
 
 pub returns : goal.returns
-returns c = c.u32_at.ensures
+returns c = c.at.ensures

@@ -8,28 +8,28 @@ use Rattle.tree.proofs.TreeWordLaws.{victim_word}
 use Rattle.tree.proofs.CallLaws.{taken}
 use Rattle.tree.proofs.victim.Goals as goal
 
-pub returns-else-takes : goal.returns-else-takes
+pub returns-then-not-takes : goal.returns-then-not-takes
 unfolding victim_of
-returns-else-takes c = rw (sym c.takes.ensures ∙ c.if-takes.false)
+returns-then-not-takes c = rw (sym c.takes.ensures ∙ c.if-not-takes.true)
 
 pub nodes_of-nodes-requires : goal.nodes_of-nodes-requires
 nodes_of-nodes-requires c =
-    let all = taken _ _ c.takes.ensures c.if-takes.true c.ranges.map.fits in
+    let all = taken _ _ c.takes.ensures c.if-not-takes.false c.ranges.map.fits in
     record { sized = all.0; map_bound = all.1 }
 
 pub overflow_sub-ways : goal.overflow_sub-ways
 overflow_sub-ways c =
-    omega (arith, (takes_sized c.args.ways c.args.map (sym c.takes.ensures ∙ c.if-takes.true)).least)
+    omega (arith, (takes_sized c.args.ways c.args.map (sym c.takes.ensures ∙ c.if-not-takes.false)).least)
 
 pub walked-requires : goal.walked-requires
 walked-requires c =
     takes_sized c.args.ways c.args.map (sym c.takes.ensures
-    ∙ c.if-takes.true)
+    ∙ c.if-not-takes.false)
 
 pub returns : goal.returns
 unfolding victim_of
 returns c =
-    let within = sym c.takes.ensures ∙ c.if-takes.true in
+    let within = sym c.takes.ensures ∙ c.if-not-takes.false in
     let nodes = c.nodes_of-nodes.ensures in
     rw within
     (c.walked.ensures

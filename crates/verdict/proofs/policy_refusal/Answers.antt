@@ -1,15 +1,12 @@
 -- `verdict::policy_refusal` meets its contract.
-use mathlib.Core.Path.{sym, ◌∙◌}
+use mathlib.Core.Path.{sym}
 use Rattle.verdict.specs.Calls.{policy_refusal_of}
 use Rattle.verdict.proofs.policy_refusal.Goals as goal
 
-pub returns-else-in_limits : goal.returns-else-in_limits
+pub returns-then-not-in_limits : goal.returns-then-not-in_limits
 unfolding policy_refusal_of
-returns-else-in_limits c = rw (sym c.in_limits.ensures ∙ c.if-in_limits.false)
-
-pub change_refusal-requires : goal.change_refusal-requires
-change_refusal-requires c = sym c.in_limits.ensures ∙ c.if-in_limits.true
+returns-then-not-in_limits c = rw (sym c.if-not-in_limits.ensures)
 
 pub returns : goal.returns
 unfolding policy_refusal_of
-returns c = rw (sym c.in_limits.ensures ∙ c.if-in_limits.true) c.change_refusal.ensures
+returns c = rw (sym c.if-not-in_limits.ensures) c.change_refusal.ensures

@@ -7,6 +7,6 @@ pub returns-then-is_ways : goal.returns-then-is_ways
 unfolding takes
 returns-then-is_ways c = c.fits.ensures ∙ rw (sym c.is_ways.ensures ∙ c.if-is_ways.true)
 
-pub returns : goal.returns
+pub returns-else-is_ways : goal.returns-else-is_ways
 unfolding takes
-returns c = rw (sym c.is_ways.ensures ∙ c.if-is_ways.false)
+returns-else-is_ways c = rw (sym c.is_ways.ensures ∙ c.if-is_ways.false) c.if-is_ways.false

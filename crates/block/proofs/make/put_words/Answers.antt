@@ -13,7 +13,7 @@ loop-set-preserved c =
     let a = c.args in
     let set = c.loop-set.set in
     let word = get_or-replicate a.sets set a.word 0 c.loop-set-test.true in
-    let put = c.put_u64.ensures ∙ put_whole (a.at + 8 * set) 8 a.word c.loop-set.block
+    let put = c.put.ensures ∙ put_whole (a.at + 8 * set) 8 a.word c.loop-set.block
     (omega (arith, c.loop-set.invariant.long, c.requires, c.loop-set-test.true)) in
     store_turned c.loop-set.invariant (rw (length-replicate a.sets a.word) c.loop-set-test.true) (rw word put)
 

@@ -5,6 +5,3 @@ use Rattle.block.proofs.make.put_words.Given as goal
 
 abbrev pub invariant-loop-set : goal.invariant-loop-set
 invariant-loop-set l = Storing 8 l.initial.block l.at (replicate l.sets l.word) l.block l.set
-
-abbrev pub decreases-loop-set : goal.decreases-loop-set
-decreases-loop-set l = l.sets - l.set

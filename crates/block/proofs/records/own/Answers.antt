@@ -11,5 +11,5 @@ counts_at-requires c =
 
 pub returns : goal.returns
 returns c =
-    rw (c.u16_at.ensures, c.u16_at-2.ensures, c.counts_at.ensures)
+    rw (c.at.ensures, c.at-2.ensures, c.counts_at.ensures)
     (sym (domain_read c.args.g c.args.block.now c.args.d c.requires.d_bound))

@@ -14,8 +14,8 @@ loop-d-preserved c = λ g.
     let loop = c.loop-d in
     let block = c.args.block.now in
     let read = ap maps_of (domain_read g block loop.d c.loop-d-test.true) in
-    let found = rw (← c.u16_at.ensures, ← c.u16_at-in-loop-d.ensures) at read in
-    subst (λ (m : Maps). Gathering (domains_in g block) (set loop.maps loop.d m) (loop.d + 1)) found
+    let found = rw (← c.at.ensures, ← c.at-in-loop-d.ensures) at read in
+    subst (λ (m : Maps). Gathering (domains_in g block) (set loop.own-items loop.d m) (loop.d + 1)) found
     (turned (loop.invariant g) c.loop-d-test.true)
 
 pub returns : goal.returns

@@ -6,7 +6,4 @@ use Rattle.block.proofs.DomainLaws.{domains_in}
 use Rattle.block.proofs.records.policies.Given as goal
 
 abbrev pub invariant-loop-d : goal.invariant-loop-d
-invariant-loop-d l = (g : Geometry) → Gathering (domains_in g l.block) l.maps l.d
-
-abbrev pub decreases-loop-d : goal.decreases-loop-d
-decreases-loop-d l = 16 - l.d
+invariant-loop-d l = (g : Geometry) → Gathering (domains_in g l.block) l.own-items l.d

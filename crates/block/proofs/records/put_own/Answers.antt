@@ -8,12 +8,12 @@ use Rattle.block.proofs.records.put_own.Goals as goal
 pub put_counts-requires : goal.put_counts-requires
 unfolding sizes
 put_counts-requires c =
-    omega (arith, c.put_u16-2.auto.bytes, c.put_u16.auto.bytes, c.requires.blocked.long, c.requires.d_bound)
+    omega (arith, c.put-2.auto.bytes, c.put.auto.bytes, c.requires.blocked.long, c.requires.d_bound)
 
 pub returns : goal.returns
 returns c =
     let a = c.args in
-    ap (contents a.g) (c.put_counts.ensures ∙ rw (c.put_u16-2.ensures, c.put_u16.ensures))
+    ap (contents a.g) (c.put_counts.ensures ∙ rw (c.put-2.ensures, c.put.ensures))
     ∙ domain_put a.g a.block.now a.d c.requires.d_bound c.requires.blocked a.own (omega (arith, c.well_formed)) (omega (arith, c.well_formed))
     (record {
       hits = omega (arith, c.well_formed);

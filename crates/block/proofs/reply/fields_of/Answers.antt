@@ -1,6 +1,7 @@
 -- `block::reply::fields_of` meets its contract.
 use Rattle.std.proofs.Common.{refl, inl, inr}
 use Rattle.block.specs.Block.{padded}
+use Rattle.block.proofs.ReplyLaws.{digit_is}
 use Rattle.block.proofs.reply.fields_of.Goals as goal
 
 pub returns-in-Hit : goal.returns-in-Hit
@@ -13,7 +14,7 @@ returns-in-Fill c = rw c.in-Fill.is
 
 pub returns-in-Evict : goal.returns-in-Evict
 unfolding padded
-returns-in-Evict c = rw (c.in-Evict.is, c.digit.ensures)
+returns-in-Evict c = rw (c.in-Evict.is, digit_is c.in-Evict.dirty c.from.ensures)
 
 pub returns-in-Pass : goal.returns-in-Pass
 unfolding padded
@@ -21,7 +22,7 @@ returns-in-Pass c = rw c.in-Pass.is
 
 pub returns-in-Flush : goal.returns-in-Flush
 unfolding padded
-returns-in-Flush c = rw (c.in-Flush.is, c.digit-in-Flush.ensures)
+returns-in-Flush c = rw (c.in-Flush.is, digit_is c.in-Flush.dirty c.from-in-Flush.ensures)
 
 pub returns-in-Absent : goal.returns-in-Absent
 unfolding padded

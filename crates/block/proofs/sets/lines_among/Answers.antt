@@ -1,5 +1,5 @@
 -- `block::sets::lines_among` meets its contract. The invariant: what was added and what is left make the whole.
-use Rattle.std.proofs.Common.{ℕ, ◌-◌, ◌%◌, ◌^◌, ◌&&◌, List, drop, sym, ap, ◌∙◌, arith}
+use Rattle.std.proofs.Common.{ℕ, ◌-◌, ◌%◌, ◌^◌, ◌&&◌, List, drop, sym, refl, ap, ◌∙◌, arith}
 use Rattle.waymap.specs.Bits.{bit, count}
 use Rattle.runs.specs.Runs.{numbers}
 use Rattle.runs.proofs.TableLaws.{numbers_long}
@@ -17,20 +17,14 @@ overflow_mul-set c = omega (arith, c.requires.limited.most_sets)
 pub overflow_add-set : goal.overflow_add-set
 overflow_add-set c = omega (arith, c.requires.limited.most_sets)
 
-pub overflow_add-set-in-loop-set : goal.overflow_add-set-in-loop-set
-overflow_add-set-in-loop-set c = omega (arith, c.loop-set-test.true)
-
-pub loop-set-smaller : goal.loop-set-smaller
-loop-set-smaller c = omega (arith, c.loop-set-test.true)
-
 pub loop-set-preserved : goal.loop-set-preserved
 loop-set-preserved c =
     let a = c.args in
     let set = c.loop-set.set in
     let valid = numbers 2 a.g.sets (drop 520 a.block.now) in
-    let read = c.u16_at-valid.ensures ∙ valid_at a.g.sets set a.block.now c.loop-set-test.true in
+    let read = c.at-valid.ensures ∙ valid_at a.g.sets set a.block.now c.loop-set-test.true in
     turned c.loop-set.invariant (rw (numbers_long 2 a.g.sets (drop 520 a.block.now)) c.loop-set-test.true)
-    (c.lines_in.ensures ∙ ap (λ (v : ℕ). count 16 (λ (w : ℕ). bit a.map w && bit v w)) read) c.wrapping_add_usize-lines.ensures.value
+    (c.lines_in-lines.ensures ∙ ap (λ (v : ℕ). count 16 (λ (w : ℕ). bit a.map w && bit v w)) read) refl
 
 pub returns : goal.returns
 returns c =

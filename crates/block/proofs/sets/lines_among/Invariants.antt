@@ -5,7 +5,4 @@ use Rattle.sweep.proofs.NumberLaws.{Adding}
 use Rattle.block.proofs.sets.lines_among.Given as goal
 
 abbrev pub invariant-loop-set : goal.invariant-loop-set
-invariant-loop-set l = Adding l.map (numbers 2 l.sets (drop 520 l.block)) l.lines l.set
-
-abbrev pub decreases-loop-set : goal.decreases-loop-set
-decreases-loop-set l = l.sets - l.set
+invariant-loop-set l = Adding l.map (numbers 2 l.initial.set-end (drop 520 l.block)) l.lines l.set

@@ -2,4 +2,4 @@
 use Rattle.block.proofs.sets.lines_at.Goals as goal
 
 pub returns : goal.returns
-returns c = rw (c.u16_at.ensures, c.u16_at-2.ensures, c.u64_at.ensures)
+returns c = rw (c.at.ensures, c.at-2.ensures, c.at-3.ensures)

@@ -4,7 +4,7 @@ use Rattle.block.proofs.sets.put_lines.Goals as goal
 
 pub returns : goal.returns
 returns c =
-    let third = c.put_u64 in
-    let second = c.put_u16-2 in
-    let first = c.put_u16 in
+    let third = c.put-3 in
+    let second = c.put-2 in
+    let first = c.put in
     third.ensures ∙ rw (second.ensures, first.ensures)

@@ -13,13 +13,6 @@ sweep_set-answer-requires c =
       set_lt_sets = c.loop-set-test.true;
     }
 
-pub overflow_add-set : goal.overflow_add-set
-overflow_add-set c =
-    omega (arith, c.loop-set-test.true, c.requires.limited.most_sets)
-
-pub loop-set-smaller : goal.loop-set-smaller
-loop-set-smaller c = omega (arith, c.loop-set-test.true)
-
 pub loop-set-preserved : goal.loop-set-preserved
 loop-set-preserved c =
     let called = c.sweep_set-answer in

@@ -5,6 +5,3 @@ use Rattle.block.proofs.sets.sweep_sets.Given as goal
 
 abbrev pub invariant-loop-set : goal.invariant-loop-set
 invariant-loop-set l = Cleaning l.g l.sweep l.initial.block l.block l.drops.dropped l.drops.dirty l.set
-
-abbrev pub decreases-loop-set : goal.decreases-loop-set
-decreases-loop-set l = l.g.sets - l.set

@@ -1,5 +1,5 @@
 -- `block::sets::use_set` meets its contract.
-use Rattle.std.proofs.Common.{ℕ, ap, ◌∙◌, subst}
+use Rattle.std.proofs.Common.{rules, ℕ, ap, ◌∙◌, subst}
 use Rattle.geometry.specs.Address.{place_of}
 use Rattle.geometry.specs.declared.Place.{Place}
 use Rattle.geometry.proofs.AddressLaws.{set_below}
@@ -17,9 +17,9 @@ places_of-at-requires c =
       set_lt_sets = rw c.place_of-found.ensures (set_below c.args.g c.args.address c.requires.limited);
     }
 
-pub use_row-requires : goal.use_row-requires
+pub work_row-requires-clause-room : goal.work_row-requires-clause-room
 unfolding place_of
-use_row-requires c =
+work_row-requires-clause-room c =
     let found = c.place_of-found in
     let at = c.places_of-at in
     rw (row_cut c.args.g.ways c.requires.limited.most_ways)
@@ -32,8 +32,9 @@ returns c =
     let found = c.place_of-found in
     let a = c.args in
     let block = a.block.now in
+    let does = c.work_row.ensures (use_of a.usage a.g.rule a.maps found.result.tag) (record { does = λ tags left l d e. search rules }) in
     let worked = subst (λ (W : ℕ). RowWorked c.places_of-at.result (use_of a.usage a.g.rule a.maps found.result.tag) W block
-    c.use_row.result c.use_row.new.block) (row_cut a.g.ways c.requires.limited.most_ways) c.use_row.ensures in
+    c.work_row.result c.work_row.new.block) (row_cut a.g.ways c.requires.limited.most_ways) does in
     set_worked a.g block c.requires found.result.set (rw found.ensures (set_below a.g a.address c.requires.limited))
     c.places_of-at.result c.places_of-at.ensures (use_of a.usage a.g.rule a.maps found.result.tag) worked
     ∙ ap (λ (q : Place). work_did (on_row a.g.ways q.set (use_of a.usage a.g.rule a.maps q.tag) (contents a.g block).state.tables)

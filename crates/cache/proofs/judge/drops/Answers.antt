@@ -6,10 +6,10 @@ use Rattle.domains.specs.Domains.{overflows}
 use Rattle.steps.proofs.JudgeLaws.{judged_far, judged_near}
 use Rattle.cache.proofs.judge.drops.Goals as goal
 
-pub returns-then-most-le4294967295 : goal.returns-then-most-le4294967295
-returns-then-most-le4294967295 c =
+pub returns-then-most : goal.returns-then-most
+returns-then-most c =
     let a = c.args in
-    judged_far a.ways a.old a.policies a.domain a.argument a.valid.now c.requires a.counts (omega (arith, c.if-most-le4294967295.true))
+    judged_far a.ways a.old a.policies a.domain a.argument a.valid.now c.requires a.counts (omega (arith, c.if-most.true))
 
 pub returns : goal.returns
 returns c =

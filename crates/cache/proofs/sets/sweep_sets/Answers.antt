@@ -1,7 +1,5 @@
--- `cache::sets::sweep_sets` meets its contract. The invariant: the sets before are swept, and the sums are theirs.
+-- `cache::sets::sweep_sets` meets its contract.
 use mathlib.Core.Path.{sym, ◌∙◌}
-use Prim.Native.Nat.{◌-◌}
-use native.Mathlib.Omega.{arith}
 use Rattle.steps.specs.Step.{tables_of}
 use Rattle.steps.proofs.SweepLaws.{begin, turned, end}
 use Rattle.cache.proofs.sets.sweep_sets.Goals as goal
@@ -9,7 +7,7 @@ use Rattle.cache.proofs.sets.sweep_sets.Goals as goal
 pub loop-set-init : goal.loop-set-init
 loop-set-init c =
     let lent = tables_of c.args.tags.now c.args.valid.now c.args.dirty.now c.args.words.now in
-    begin c.args.g c.args.sweep lent c.requires
+    rw (c.default-drops.ensures.0, c.default-drops.ensures.1) (begin c.args.g c.args.sweep lent c.requires)
 
 pub sweep_set-answer-requires : goal.sweep_set-answer-requires
 sweep_set-answer-requires c =
@@ -17,14 +15,6 @@ sweep_set-answer-requires c =
       shaped = c.loop-set.invariant.shaped;
       set_lt_sets = c.loop-set-test.true;
     }
-
-pub overflow_add-set : goal.overflow_add-set
-overflow_add-set c =
-    omega (arith, c.loop-set-test.true, c.requires.limited.most_sets)
-
-pub loop-set-smaller : goal.loop-set-smaller
-loop-set-smaller c =
-    omega (arith, c.loop-set-test.true)
 
 pub loop-set-preserved : goal.loop-set-preserved
 loop-set-preserved c =

@@ -1,5 +1,4 @@
 -- `lru_rule::orders::falling` meets its contract. The invariant: what is left of the map, put before what was put, is the whole.
-use Prim.Native.Nat.{◌-◌}
 use Rattle.lru_rule.proofs.FallingLaws.{Falling}
 use Rattle.lru_rule.proofs.orders.falling.Given as goal
 

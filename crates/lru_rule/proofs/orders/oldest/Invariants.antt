@@ -5,6 +5,3 @@ use Rattle.lru_rule.proofs.orders.oldest.Given as goal
 
 abbrev pub invariant-loop-k : goal.invariant-loop-k
 invariant-loop-k l = Searching l.ways (bit l.map) l.order l.k
-
-abbrev pub decreases-loop-k : goal.decreases-loop-k
-decreases-loop-k l = l.k

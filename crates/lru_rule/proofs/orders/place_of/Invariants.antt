@@ -1,10 +1,6 @@
 -- `lru_rule::orders::place_of` meets its contract. The invariant: the way does not stand below place k.
-use Prim.Native.Nat.{◌-◌}
 use Rattle.lru_rule.proofs.LiftLaws.{Seeking}
 use Rattle.lru_rule.proofs.orders.place_of.Given as goal
 
 abbrev pub invariant-loop-k : goal.invariant-loop-k
 invariant-loop-k l = Seeking l.ways l.way l.order l.k
-
-abbrev pub decreases-loop-k : goal.decreases-loop-k
-decreases-loop-k l = l.ways - l.k

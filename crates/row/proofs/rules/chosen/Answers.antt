@@ -1,14 +1,13 @@
--- `row::rules::chosen` meets its contract.
-use Rattle.row.proofs.RuleLaws.{chosen_is, chosen_reply}
+-- `row::rules::chosen` meets its contract: within the limits a map that is not empty has a victim.
+use mathlib.Core.Path.{sym, ◌∙◌}
+use Rattle.row.proofs.RuleLaws.{victim_gives, chosen_is}
+use Rattle.replacement.proofs.ReplyLaws.{ok_same}
 use Rattle.row.proofs.rules.chosen.Goals as goal
 
-pub returns-in-Way : goal.returns-in-Way
-returns-in-Way c =
-    chosen_is c.args.word c.victim-done.result c.requires.usable c.requires.fill_value c.victim-done.ensures
-    c.in-Way.is
+pub unwrap-requires : goal.unwrap-requires
+unwrap-requires c = rw (victim_gives c.args.word c.requires.usable c.requires.fill_value c.victim.ensures)
 
--- no other answer than a way
-pub returns-in_default : goal.returns-in_default
-returns-in_default c =
-    let way = chosen_reply c.args.word c.victim-done.result c.requires.usable c.requires.fill_value c.victim-done.ensures in
-    absurd (c.in_default.not-Way _ way)
+pub returns : goal.returns
+returns c =
+    let gives = victim_gives c.args.word c.requires.usable c.requires.fill_value c.victim.ensures in
+    chosen_is c.args.word c.requires.usable c.requires.fill_value (ok_same (sym c.unwrap.ensures ∙ gives))

@@ -1,14 +1,13 @@
--- `sweep::number::lines_among` meets its contract. The invariant: what was added and what is left make the whole.
-use Rattle.std.proofs.Common.{◌-◌}
+-- `sweep::number::lines_among` meets its contract.
+use mathlib.Core.Path.{refl}
 use Rattle.sweep.proofs.NumberLaws.{begin, turned, end}
 use Rattle.sweep.proofs.number.lines_among.Goals as goal
 
-pub loop-set-init : goal.loop-set-init
-loop-set-init c = begin _ _
+pub loop-held-init : goal.loop-held-init
+loop-held-init c = begin _ _
 
-pub loop-set-preserved : goal.loop-set-preserved
-loop-set-preserved c =
-    turned c.loop-set.invariant c.loop-set-test.true c.lines_in.ensures c.wrapping_add_usize-lines.ensures.value
+pub loop-held-preserved : goal.loop-held-preserved
+loop-held-preserved c = turned c.loop-held.invariant c.loop-held-test.true c.lines_in-lines.ensures refl
 
 pub returns : goal.returns
-returns c = end c.loop-set.invariant c.loop-set-test.false
+returns c = end c.loop-held.invariant c.loop-held-test.false

@@ -1,5 +1,4 @@
 -- `sweep::tags::wipe` meets its contract. The invariant: what is left of the map is still to be done.
-use Rattle.std.proofs.Common.{◌-◌}
 use Rattle.sweep.proofs.TagLaws.{Wiping}
 use Rattle.sweep.proofs.tags.wipe.Given as goal
 

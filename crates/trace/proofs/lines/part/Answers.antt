@@ -9,7 +9,7 @@ returns-then-read-eq0 c =
     let given = c.args in
     record {
       out_after = part_none given.ways given.number given.own (written_of given.at given.out.now)
-          c.as_read-read.ensures c.if-read-eq0.true;
+          (rw c.maps.ensures at c.as_read-read.ensures) c.if-read-eq0.true;
       upper_bound = omega arith;
     }
 
@@ -19,6 +19,6 @@ returns c =
     let named = c.domain in
     record {
       out_after = part_some given.ways given.number given.own (written_of given.at given.out.now)
-          c.as_read-read.ensures c.if-read-eq0.false named.ensures.out_after;
+          (rw c.maps.ensures at c.as_read-read.ensures) c.if-read-eq0.false named.ensures.out_after;
       upper_bound = named.ensures.upper_bound;
     }

@@ -1,40 +1,36 @@
 -- `trace::lines::said` meets its contract.
-use mathlib.Core.Logic.{inl, inr}
-use mathlib.Core.Path.{refl}
-use Rattle.waymap.proofs.Booleans.{cases}
 use Rattle.listing.specs.Listing.{told}
-use Rattle.command.proofs.AnswerLaws.{bare}
-use Rattle.trace.proofs.LineLaws.{says}
+use Rattle.trace.proofs.LineLaws.{byte_is}
 use Rattle.trace.proofs.lines.said.Goals as goal
 
-pub returns-in-Hit : goal.returns-in-Hit
+pub returns-in-Hit-clause-out_after : goal.returns-in-Hit-clause-out_after
 unfolding told
-returns-in-Hit c = says tt tt tt (rw c.in-Hit.is)
+returns-in-Hit-clause-out_after c = rw c.in-Hit.is c.told.ensures.out_after
 
-pub returns-in-Fill : goal.returns-in-Fill
+pub returns-in-Fill-clause-out_after : goal.returns-in-Fill-clause-out_after
 unfolding told
-returns-in-Fill c = says tt tt tt (rw c.in-Fill.is)
+returns-in-Fill-clause-out_after c = rw c.in-Fill.is c.told-in-Fill.ensures.out_after
 
-pub returns-in-Evict : goal.returns-in-Evict
+pub returns-in-Evict-clause-out_after : goal.returns-in-Evict-clause-out_after
 unfolding told
-returns-in-Evict c = says tt tt tt (rw c.in-Evict.is (cases c.in-Evict.dirty (λ t. rw t) (λ t. rw t)))
+returns-in-Evict-clause-out_after c = rw (c.in-Evict.is, ← (byte_is c.in-Evict.dirty)) c.told-in-Evict.ensures.out_after
 
-pub returns-in-Pass : goal.returns-in-Pass
+pub returns-in-Pass-clause-out_after : goal.returns-in-Pass-clause-out_after
 unfolding told
-returns-in-Pass c = says tt tt tt (rw c.in-Pass.is)
+returns-in-Pass-clause-out_after c = rw c.in-Pass.is c.told-in-Pass.ensures.out_after
 
-pub returns-in-Flush : goal.returns-in-Flush
+pub returns-in-Flush-clause-out_after : goal.returns-in-Flush-clause-out_after
 unfolding told
-returns-in-Flush c = says tt tt tt (rw c.in-Flush.is (cases c.in-Flush.dirty (λ t. rw t) (λ t. rw t)))
+returns-in-Flush-clause-out_after c = rw (c.in-Flush.is, ← (byte_is c.in-Flush.dirty)) c.told-in-Flush.ensures.out_after
 
-pub returns-in-Absent : goal.returns-in-Absent
+pub returns-in-Absent-clause-out_after : goal.returns-in-Absent-clause-out_after
 unfolding told
-returns-in-Absent c = says tt tt tt (rw c.in-Absent.is)
+returns-in-Absent-clause-out_after c = rw c.in-Absent.is c.told-in-Absent.ensures.out_after
 
-pub returns-in-Policy : goal.returns-in-Policy
+pub returns-in-Policy-clause-out_after : goal.returns-in-Policy-clause-out_after
 unfolding told
-returns-in-Policy c = says tt tt tt (rw c.in-Policy.is)
+returns-in-Policy-clause-out_after c = rw c.in-Policy.is c.told-in-Policy.ensures.out_after
 
-pub returns-in-Refused : goal.returns-in-Refused
+pub returns-in-Refused-clause-out_after : goal.returns-in-Refused-clause-out_after
 unfolding told
-returns-in-Refused c = says tt tt tt (rw c.in-Refused.is)
+returns-in-Refused-clause-out_after c = rw c.in-Refused.is c.told-in-Refused.ensures.out_after

@@ -1,6 +1,5 @@
 -- `tree::walk::walked` meets its contract. The invariant: the walk from where it stands leads where the whole walk leads.
 use native.Mathlib.Omega.{arith}
-use Prim.Native.Nat.{◌-◌}
 use Rattle.waymap.specs.Bits.{bit}
 use Rattle.waymap.proofs.BitLaws.{digit_lt}
 use Rattle.tree.proofs.WalkLaws.{begin, turned, end}

@@ -1,5 +1,5 @@
 -- `verdict::reasons::line_refusal` meets its contract.
-use mathlib.Core.Path.{sym, ◌∙◌}
+use mathlib.Core.Path.{sym}
 use borrow.Author.Tests.{eq-eqb, ne_eqb}
 use Rattle.verdict.specs.Refusal.{use_refusal}
 use Rattle.verdict.proofs.reasons.line_refusal.Goals as goal
@@ -12,10 +12,10 @@ pub returns-then-is_full : goal.returns-then-is_full
 unfolding use_refusal
 returns-then-is_full c =
     let read = c.as_read-read in
-    rw (← read.ensures, ne_eqb read.result.hit 0 c.if-read-eq0.false, sym c.is_full.ensures ∙ c.if-is_full.true)
+    rw (← read.ensures, ne_eqb read.result.hit 0 c.if-read-eq0.false, sym c.if-is_full.ensures)
 
 pub returns : goal.returns
 unfolding use_refusal
 returns c =
     let read = c.as_read-read in
-    rw (← read.ensures, ne_eqb read.result.hit 0 c.if-read-eq0.false, sym c.is_full.ensures ∙ c.if-is_full.false)
+    rw (← read.ensures, ne_eqb read.result.hit 0 c.if-read-eq0.false, sym c.if-is_full.ensures)

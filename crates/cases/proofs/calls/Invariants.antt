@@ -1,9 +1,0 @@
--- `cases::calls` meets its contract.
-use Prim.Native.Nat.{◌-◌}
-use Rattle.cases.proofs.calls.Given as goal
-
-abbrev pub invariant-loop-i : goal.invariant-loop-i
-invariant-loop-i l = Unit {0}
-
-abbrev pub decreases-loop-i : goal.decreases-loop-i
-decreases-loop-i l = 65538 - l.i

@@ -1,0 +1,113 @@
+// What has to be known of a type whose numbers lie in bytes, and the types.
+ghost use Rattle.std.specs.Prelude.{◌≡◌, ℕ, ◌≤◌, length};
+ghost use Rattle.std.proofs.Common.{rules};
+ghost use Rattle.std.proofs.lemmas.List.Edits.{sets};
+ghost use Rattle.endian.specs.Bytes.{field, digits};
+
+// A type of numbers of at most eight bytes, which lie with the lowest first.
+pub trait Number: Copy {
+    // How many bytes a number takes.
+    const WIDTH: usize;
+
+    ghost WIDTH: { ℕ };
+
+    // Which number a value is.
+    ghost number: { Self → ℕ };
+
+    // The number in the first bytes.
+    fn read(bytes: &[u8]) -> Self
+        requires { WIDTH ≤ length bytes.now }
+        ensures { number result ≡ field 0 WIDTH bytes.now };
+
+    // The number written over the first bytes.
+    fn write(self, bytes: &mut [u8])
+        requires { WIDTH ≤ length bytes.old }
+        ensures { bytes.new ≡ sets bytes.old 0 (digits WIDTH (number self)) };
+
+    // A number has a byte, and at most eight.
+    ghost some: { 1 ≤ WIDTH };
+
+    ghost few: { WIDTH ≤ 8 };
+}
+
+impl Number for u8 {
+    const WIDTH: usize = 1;
+
+    ghost WIDTH = { 1 };
+
+    ghost number = { λ n. n };
+
+    fn read(bytes: &[u8]) -> u8 {
+        bytes[0]
+    }
+
+    fn write(self, bytes: &mut [u8]) {
+        bytes[0] = self;
+    }
+
+    ghost some = { Prim.search rules };
+
+    ghost few = { Prim.search rules };
+}
+
+impl Number for u16 {
+    const WIDTH: usize = 2;
+
+    ghost WIDTH = { 2 };
+
+    ghost number = { λ n. n };
+
+    fn read(bytes: &[u8]) -> u16 {
+        u16::from_le_bytes([bytes[0], bytes[1]])
+    }
+
+    fn write(self, bytes: &mut [u8]) {
+        bytes[..2].copy_from_slice(&self.to_le_bytes());
+    }
+
+    ghost some = { Prim.search rules };
+
+    ghost few = { Prim.search rules };
+}
+
+impl Number for u32 {
+    const WIDTH: usize = 4;
+
+    ghost WIDTH = { 4 };
+
+    ghost number = { λ n. n };
+
+    fn read(bytes: &[u8]) -> u32 {
+        u32::from_le_bytes([bytes[0], bytes[1], bytes[2], bytes[3]])
+    }
+
+    fn write(self, bytes: &mut [u8]) {
+        bytes[..4].copy_from_slice(&self.to_le_bytes());
+    }
+
+    ghost some = { Prim.search rules };
+
+    ghost few = { Prim.search rules };
+}
+
+impl Number for u64 {
+    const WIDTH: usize = 8;
+
+    ghost WIDTH = { 8 };
+
+    ghost number = { λ n. n };
+
+    fn read(bytes: &[u8]) -> u64 {
+        u64::from_le_bytes([
+            bytes[0], bytes[1], bytes[2], bytes[3], bytes[4], bytes[5], bytes[6], bytes[7],
+        ])
+    }
+
+    fn write(self, bytes: &mut [u8]) {
+        bytes[..8].copy_from_slice(&self.to_le_bytes());
+    }
+
+    ghost some = { Prim.search rules };
+
+    ghost few = { Prim.search rules };
+}

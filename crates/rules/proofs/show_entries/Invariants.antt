@@ -1,9 +1,0 @@
--- `rules::show_entries` meets its contract.
-use Prim.Native.Nat.{◌-◌}
-use Rattle.rules.proofs.show_entries.Given as goal
-
-abbrev pub invariant-loop-i : goal.invariant-loop-i
-invariant-loop-i l = Unit {0}
-
-abbrev pub decreases-loop-i : goal.decreases-loop-i
-decreases-loop-i l = l.n - l.i

@@ -1,0 +1,34 @@
+-- `runs::put` meets its contract.
+use mathlib.Core.List.{map}
+use mathlib.Core.Path.{◌≡◌, sym}
+use Prim.Native.Nat.{ℕ, ◌+◌, ◌-◌, ◌*◌, ◌≤◌}
+use native.Mathlib.Omega.{arith}
+use lib.ListN.{length}
+use Rattle.std.proofs.lemmas.List.{length-map}
+use Rattle.runs.proofs.RunLaws.{run_stored, room, no_room, put_behind, run_left}
+use Rattle.runs.proofs.put.Goals as goal
+use Rattle.runs.proofs.put.Goals.{else-at-bytes-via-then-at-bytes+else-numbers-bytes, else-at-bytes-via-else-at-bytes}
+
+pub returns-then-numbers-bytes : goal.returns-then-numbers-bytes
+returns-then-numbers-bytes g c =
+    let a = c.args in
+    let n = g.N.Number.WIDTH in
+    let xs = map g.N.Number.number a.numbers.now in
+    let long = length-map a.numbers.now g.N.Number.number in
+    let e : ℕ = a.at + c.WIDTH-then-numbers-bytes.result * length a.numbers.now in
+    let fit = room n _ _ g.met.N.Number.some (rw c.WIDTH.ensures at c.if-numbers-bytes.true) in
+    let end : e ≡ a.at + n * length xs = rw (c.WIDTH-then-numbers-bytes.ensures, long) in
+    let within : n * length xs ≤ length a.bytes.now - a.at = rw long fit in
+    rw c.store.ensures (run_stored a.at n a.bytes.now xs end (omega (arith, end, within, c.if-at-bytes.true)))
+
+pub returns-else-at-bytes : goal.returns-else-at-bytes
+returns-else-at-bytes g c =
+    let a = c.args in
+    let n = g.N.Number.WIDTH in
+    let xs = map g.N.Number.number a.numbers.now in
+    let long = length-map a.numbers.now g.N.Number.number in
+    elim c.else-at-bytes.branch [
+      | else-at-bytes-via-then-at-bytes+else-numbers-bytes w ↦
+          sym (run_left a.at n a.bytes.now xs (rw long (no_room n _ _ g.met.N.Number.some (rw w.WIDTH.ensures at w.if-numbers-bytes.false))))
+      | else-at-bytes-via-else-at-bytes w ↦ put_behind a.at n a.bytes.now xs g.met.N.Number.some (omega (arith, w.if-at-bytes.false))
+    ]
