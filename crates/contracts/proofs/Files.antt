@@ -1,5 +1,5 @@
--- Contracts of numbers in bytes, trace files and listings: each asks nothing, and settles
--- what is said here for every input.
+-- Contracts of numbers in bytes, streams, trace files and listings: each asks nothing, and settles what is said here for every input. One asks
+-- something, `show_input`: that what it is handed may be called.
 use Rattle.command.specs.Command.{command_is}
 use Rattle.command.specs.Refusal.{number_in}
 use Rattle.contracts.proofs.Exactly.{exactly}
