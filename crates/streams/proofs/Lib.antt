@@ -1,1 +1,2 @@
+pub mod Decimal
 pub mod Moved

@@ -1,9 +1,10 @@
 // Input, read to its end, output, and a program's arguments: the one layer over the library's readers, writers and environment.
 #![tactic(auto)]
 
-ghost use Rattle.std.specs.Prelude.{◌≡◌, ℕ, ◌<◌, ◌≤◌, min, length, take, decimal, IfOk, IfSome, IsErrOf, IsTrue, OnOk, ◌⊎◌};
+ghost use Rattle.std.specs.Prelude.{◌≡◌, ℕ, List, ◌<◌, ◌≤◌, min, length, take, decimal, Result, IfOk, IfSome, IsErrOf, IsTrue, OnOk, ⊤, ◌⊎◌};
 ghost use Rattle.std.specs.Io.{StartsWith};
 ghost use Rattle.std.specs.Io.KnownBytes.{Appends, Consumes, IsAtEnd};
+ghost use Rattle.std.specs.declared.io.Error.{Error};
 ghost use Rattle.io.specs.Counts.{IsPrefixLen};
 ghost use Rattle.streams.specs.Kept.{kept};
 ghost use Rattle.streams.specs.Shown.{Shown};
@@ -107,23 +108,31 @@ pub fn read_file<R: Read>(input: &mut R, file: &mut [u8; ROOM]) -> result::Resul
     }
 }
 
-// Hands a trace file on the input to `show`, which writes to the output. An input that was not read to its end is not shown.
-pub fn show_input<R: Read, W: Write, F: FnOnce(&mut W, &[u8]) -> Result<()>>(
+// What shows a file on an output. `shows` tells what it does: of the output before, the file, the answer and the output after. Where an `impl` says
+// nothing of it, it may be anything.
+pub trait Show<W> {
+    ghost shows: { Self → W → List ℕ → Result (Unit {0}) Error → W → Type 0 } = { λ _ _ _ _ _. ⊤ };
+
+    fn show(&self, output: &mut W, file: &[u8]) -> Result<()>
+        ensures { shows self.now output.old file.now result output.new };
+}
+
+// Has a trace file on the input shown on the output. An input that was not read to its end is not shown.
+pub fn show_input<R: Read, W: Write, S: Show<W>>(
     input: &mut R,
     output: &mut W,
-    show: F,
+    shown: &S,
 ) -> result::Result<(), Failure>
-    requires { F.IsAlwaysCallable show }
     ensures end { (IsErrOf result Failure.Input) ⊎ (IsAtEnd (R.remaining input.new)) }
     ensures unread { IsErrOf result Failure.Input → output.new ≡ output.old }
-    ensures shown { OnOk result (Shown (F.post show) output.old output.new (R.remaining input.old) (Ok tt)) }
-    ensures stopped { IsErrOf result Failure.Output → (e : _) × Shown (F.post show) output.old output.new (R.remaining input.old) (Err e) }
+    ensures shown { OnOk result (Shown (S.shows shown.now) output.old output.new (R.remaining input.old) (Ok tt)) }
+    ensures stopped { IsErrOf result Failure.Output → (e : _) × Shown (S.shows shown.now) output.old output.new (R.remaining input.old) (Err e) }
 {
     let mut file = [0; ROOM];
     let Ok(count) = read_file(input, &mut file) else {
         return Err(Failure::Input);
     };
-    match show(output, &file[..count]) {
+    match shown.show(output, &file[..count]) {
         Ok(()) => Ok(()),
         Err(_) => Err(Failure::Output),
     }
@@ -137,11 +146,11 @@ pub fn write_all<W: Write>(output: &mut W, bytes: &[u8]) -> Result<()>
 {
     let mut done = 0;
     while done < bytes.len() {
-        let n = output.write(&bytes[done..])?;
-        if n == 0 {
-            return Err(Error::from(ErrorKind::WriteZero));
+        match output.write(&bytes[done..]) {
+            Ok(0) => return Err(Error::from(ErrorKind::WriteZero)),
+            Ok(n) => done += n,
+            Err(e) => return Err(e),
         }
-        done += n;
     }
     Ok(())
 }
@@ -150,7 +159,52 @@ pub fn write_all<W: Write>(output: &mut W, bytes: &[u8]) -> Result<()>
 pub fn print_decimal<W: Write>(output: &mut W, n: u64) -> Result<()>
     ensures { OnOk result (Appends (W.contents output.old) (W.contents output.new) (decimal n)) }
 {
-    write!(output, "{n}")
+    let mut text = [0; 20];
+    let count = io::decimal(n, &mut text);
+    write_all(output, &text[..count])
+}
+
+// Writes to the output that it is lent. Each piece that `write!` hands on goes by `write_all` above, which stops at the first write that takes nothing or
+// fails; the library's tries again where a write was interrupted.
+pub struct Plain<'a, W> {
+    pub output: &'a mut W,
+}
+
+impl<W: Write> Write for Plain<'_, W> {
+    ghost contents = { λ s. W.contents s.output.now };
+
+    fn write(&mut self, bytes: &[u8]) -> Result<usize> {
+        self.output.write(bytes)
+    }
+
+    fn flush(&mut self) -> Result<()> {
+        self.output.flush()
+    }
+
+    fn write_all(&mut self, bytes: &[u8]) -> Result<()> {
+        write_all(self.output, bytes)
+    }
+}
+
+// Writes to the output that it is lent, and goes on where a piece could not be written: `write_all` answers that all is well whatever came of it, so that a
+// program by `write!` and `?` tries each piece. What the output holds then nobody learns, so that this writer knows of no contents.
+pub struct Trying<'a, W> {
+    pub output: &'a mut W,
+}
+
+impl<W: Write> Write for Trying<'_, W> {
+    fn write(&mut self, piece: &[u8]) -> Result<usize> {
+        self.output.write(piece)
+    }
+
+    fn flush(&mut self) -> Result<()> {
+        self.output.flush()
+    }
+
+    fn write_all(&mut self, piece: &[u8]) -> Result<()> {
+        let _ = write_all(self.output, piece);
+        Ok(())
+    }
 }
 
 // Puts argument i at the front of the buffer, and answers its length, if there is one and it has room. Argument 0 is the program's name.
