@@ -1,9 +1,8 @@
--- Contracts of numbers in bytes, streams, trace files and listings: each asks nothing, and settles what is said here for every input. One asks
--- something, `show_input`: that what it is handed may be called.
+-- Contracts of numbers in bytes, streams, trace files and listings: each asks nothing, and settles what is said here for every input.
 use Rattle.command.specs.Command.{command_is}
 use Rattle.command.specs.Refusal.{number_in}
 use Rattle.contracts.proofs.Exactly.{exactly}
-use Rattle.contracts.specs.Contract.{Held, Settled}
+use Rattle.contracts.specs.Contract.{Held}
 use Rattle.endian.proofs.at.Reads as EndianAt
 use Rattle.endian.proofs.put.Reads as EndianPut
 use Rattle.endian.specs.Bytes.{field, put_field}
@@ -22,6 +21,7 @@ use Rattle.std.specs.Io.KnownBytes.{Appends, IsAtEnd}
 use Rattle.std.specs.declared.env.Env as Env
 use Rattle.std.specs.declared.io.traits.Read as Read
 use Rattle.std.specs.declared.io.traits.Write as Write
+use Rattle.streams.proofs.PlainWrite.write_all.Reads as StreamsPlainWriteAll
 use Rattle.streams.proofs.arg.Reads as StreamsArg
 use Rattle.streams.proofs.print_decimal.Reads as StreamsPrintDecimal
 use Rattle.streams.proofs.read_file.Reads as StreamsReadFile
@@ -29,7 +29,7 @@ use Rattle.streams.proofs.show_input.Reads as StreamsShowInput
 use Rattle.streams.proofs.write_all.Reads as StreamsWriteAll
 use Rattle.streams.specs.Kept.{kept}
 use Rattle.streams.specs.Shown.{Shown}
-use Rattle.streams.specs.contracts.show_input.F-FnOnce as ShowCall
+use Rattle.streams.specs.declared.Show as Show
 use Rattle.streams.specs.declared.Failure.TheVariants.{Input, Output}
 use Rattle.std.specs.declared.io.Error.{Error}
 use Rattle.trace.proofs.list.Reads as TraceList
@@ -202,22 +202,33 @@ module _ (T : RattleType) (none : T.lives ≡ []) (laws : Laws T) (dict : Dict) 
       OnOk r (Appends (its.contents output.now) (its.contents output'.now) (decimal n)))
   streams_print_decimal its = record { asks_nothing = λ κs a κ m. lasts T.lives none κ m; settles = λ κs a r e h. h }
 
+  streams_plain_write_all : (its : Write.Ghosts T.Denot) → Held (StreamsPlainWriteAll.Asked T laws its dict) (StreamsPlainWriteAll.Learnt T laws its dict)
+      (λ κs a r e.
+      let writer = a.0 in let writer' = e.0 in let bytes = a.1.0 in
+      OnOk r (Appends (its.contents writer.now.output.now) (its.contents writer'.now.output.now) bytes.now))
+  streams_plain_write_all its = record { asks_nothing = λ κs a κ m. lasts T.lives none κ m; settles = λ κs a r e h. h }
+
   streams_arg : (its : Env.Ghosts T.Denot) → Held (StreamsArg.Asked T laws its dict) (StreamsArg.Learnt T laws its dict)
       (λ κs a r e. let buf' = e.1.1.0 in IfSome r (λ count. IsPrefixLen count buf'.now))
   streams_arg its = record { asks_nothing = λ κs a κ m. lasts T.lives none κ m; settles = λ κs a r e h. h }
 
--- What `show_input` asks is that what it is handed may be called.
-module _ (R W F : RattleType) (reader : Laws R) (writer : Laws W) (shows : Laws F) (read-dict write-dict call-dict drop-dict : Dict) where
-  streams_show_input : (read : Read.Ghosts R.Denot) (write : Write.Ghosts W.Denot) (call : ShowCall.Ghosts R W F)
-      → Settled (StreamsShowInput.Learnt R W F reader writer shows read read-dict write write-dict call call-dict drop-dict)
+-- Of any reader, writer and value that shows, which borrow nothing.
+module _ (R W S : RattleType) (no-loan-R : R.lives ≡ []) (no-loan-W : W.lives ≡ []) (no-loan-S : S.lives ≡ [])
+    (reader : Laws R) (writer : Laws W) (shows : Laws S) (read-dict write-dict show-dict : Dict) where
+  streams_show_input : (read : Read.Ghosts R.Denot) (write : Write.Ghosts W.Denot) (show : Show.Ghosts S.Denot W.Denot)
+      → Held (StreamsShowInput.Asked R W S reader writer shows read read-dict write write-dict show show-dict)
+      (StreamsShowInput.Learnt R W S reader writer shows read read-dict write write-dict show show-dict)
       (λ κs a r e.
-      let input = a.0 in let input' = e.0 in let output = a.1.0 in let output' = e.1.0 in
-      let shown = Shown ((ShowCall.words R W F call).post a.1.1.0) output.now output'.now (read.remaining input.now) in
+      let input = a.0 in let input' = e.0 in let output = a.1.0 in let output' = e.1.0 in let value = a.1.1.0 in
+      let shown = Shown (show.shows value.now) output.now output'.now (read.remaining input.now) in
       (IsErrOf r Input ⊎ IsAtEnd (read.remaining input'.now))
       × ((IsErrOf r Input → output'.now ≡ output.now)
       × ((OnOk r (shown (Ok tt)))
       × (IsErrOf r Output → (x : Error) × shown (Err x)))))
-  streams_show_input read write call = record { told = λ κs a r e h. h }
+  streams_show_input read write show = record {
+    asks_nothing = λ κs a. (λ κ m. lasts R.lives no-loan-R κ m, (λ κ m. lasts W.lives no-loan-W κ m, λ κ m. lasts S.lives no-loan-S κ m));
+    settles = λ κs a r e h. h;
+  }
 
 -- ---- `script`
 

@@ -18,7 +18,8 @@ use cores::{Reply, Stepped};
 use domains::Domains;
 use geometry::Geometry;
 use selectors::Core;
-use std::io::{Result, Stdout, Write};
+use std::io::{Result, Write};
+use streams::Trying;
 
 // How many records there are.
 const RECORDS: usize = 33;
@@ -68,7 +69,7 @@ fn lend(
 // ---- Writing
 
 // An answer's word and three fields.
-fn show_answer(stdout: &mut Stdout, answer: Answer) -> Result<()> {
+fn show_answer(stdout: &mut impl Write, answer: Answer) -> Result<()> {
     let [word, first, second, third] = match answer {
         Answer::Hit(way) => [0, way as u64, 0, 0],
         Answer::Fill(way) => [1, way as u64, 0, 0],
@@ -79,21 +80,31 @@ fn show_answer(stdout: &mut Stdout, answer: Answer) -> Result<()> {
         Answer::Policy { dropped, dirty } => [6, dropped as u64, dirty as u64, 0],
         Answer::Refused(number) => [7, number as u64, 0, 0],
     };
-    write!(stdout, "= {word} {first} {second} {third}")
+    write!(stdout, "=")?;
+    write!(stdout, " {word} {first} {second} {third}")
 }
 
-fn show_reply(stdout: &mut Stdout, reply: Reply) -> Result<()> {
+fn show_reply(stdout: &mut impl Write, reply: Reply) -> Result<()> {
     match reply {
         Reply::Cache(answer) => show_answer(stdout, answer),
-        Reply::Select(Core { cs, ds, es }) => write!(stdout, "= 8 {cs} {ds} {es}"),
+        Reply::Select(Core { cs, ds, es }) => {
+            write!(stdout, "= 8")?;
+            write!(stdout, " {cs} {ds} {es}")
+        }
     }
 }
 
 // The records that are not as they were, each with its place.
-fn show_cores(stdout: &mut Stdout, old: &[Core; RECORDS], list: &[Core; RECORDS]) -> Result<()> {
+fn show_cores(
+    stdout: &mut impl Write,
+    old: &[Core; RECORDS],
+    list: &[Core; RECORDS],
+) -> Result<()> {
     for (place, (core, old)) in list.iter().zip(old).enumerate() {
         if core != old {
-            write!(stdout, " | {place}: {} {} {}", core.cs, core.ds, core.es)?;
+            write!(stdout, " |")?;
+            write!(stdout, " {place}:")?;
+            write!(stdout, " {} {} {}", core.cs, core.ds, core.es)?;
         }
     }
     writeln!(stdout)
@@ -125,7 +136,7 @@ fn told_of(sets: usize) -> Geometry {
 
 // A step, and what it did.
 fn step(
-    stdout: &mut Stdout,
+    stdout: &mut impl Write,
     bench: &mut Bench,
     tags: &mut [u64],
     valid: &mut [u16],
@@ -165,7 +176,7 @@ fn put_core(bench: &mut Bench, numbers: [u64; 5]) {
 
 // Does what a line asks for.
 fn do_line(
-    stdout: &mut Stdout,
+    stdout: &mut impl Write,
     bench: &mut Bench,
     tags: &mut [u64; 4],
     valid: &mut [u16; 1],
@@ -173,7 +184,7 @@ fn do_line(
     words: &mut [u64; 1],
     line: &[u8],
 ) -> Result<()> {
-    streams::write_all(stdout, line)?;
+    stdout.write_all(line)?;
     let numbers = script::numbers_of(line);
     match line.first() {
         Some(b'l') => bench.count = numbers[1] as usize,
@@ -185,9 +196,9 @@ fn do_line(
     Ok(())
 }
 
-// Does what the lines of a script ask for, up to the first that cannot be written.
+// Does what the lines of a script ask for.
 fn run(
-    stdout: &mut Stdout,
+    stdout: &mut impl Write,
     tags: &mut [u64; 4],
     valid: &mut [u16; 1],
     dirty: &mut [u16; 1],
@@ -227,9 +238,10 @@ fn main(rt: HostRuntime) {
     let mut valid = [0; 1];
     let mut dirty = [0; 1];
     let mut words = [0; 1];
-    // A failed write ends the script, and is not told.
+    // A failed write is not told, and the pieces behind it are tried.
+    let stdout = &mut rt.stdout();
     let _ = run(
-        &mut rt.stdout(),
+        &mut Trying { output: stdout },
         &mut tags,
         &mut valid,
         &mut dirty,

@@ -2,12 +2,13 @@
 // that was not read to its end is not listed.
 #![tactic(auto)]
 
-use std::io::{Result, Stdout};
+use std::io::{Result, Write};
+use streams::{Plain, Show};
 use trace::TAGS;
 use tracefile::MAX_SETS;
 
 // Lists a file.
-fn show_file(stdout: &mut Stdout, file: &[u8]) -> Result<()> {
+fn show_file(stdout: &mut impl Write, file: &[u8]) -> Result<()> {
     let mut tags = [0u64; TAGS];
     let mut valid = [0u16; MAX_SETS];
     let mut dirty = [0u16; MAX_SETS];
@@ -19,8 +20,18 @@ fn show_file(stdout: &mut Stdout, file: &[u8]) -> Result<()> {
     streams::write_all(stdout, &out[..length])
 }
 
+// What `main` has shown: the listing of a file.
+struct Listing;
+
+impl<W: Write> Show<W> for Listing {
+    fn show(&self, output: &mut W, file: &[u8]) -> Result<()> {
+        show_file(output, file)
+    }
+}
+
 fn main(rt: HostRuntime) {
-    if let Err(failure) = streams::show_input(&mut rt.stdin(), &mut rt.stdout(), show_file) {
-        let _ = eprintln!(rt; "lister: {failure}");
+    if let Err(failure) = streams::show_input(&mut rt.stdin(), &mut rt.stdout(), &Listing) {
+        let stderr = &mut rt.stderr();
+        let _ = writeln!(Plain { output: stderr }, "lister: {failure}");
     }
 }

@@ -3,10 +3,11 @@
 // file that is refused gives the one line `refused` and its number. A failed read or write is told on standard error.
 #![tactic(auto)]
 
-use std::io::{Result, Stdout, Write};
+use std::io::{Result, Write};
+use streams::{Plain, Show};
 
 // Writes the own part of a word, or why there is none.
-fn show_part(stdout: &mut Stdout, ways: usize, rule: usize, word: u64, map: u16) -> Result<()> {
+fn show_part(stdout: &mut impl Write, ways: usize, rule: usize, word: u64, map: u16) -> Result<()> {
     match replacement::own(ways, rule, word, map) {
         Ok(part) => writeln!(stdout, "{part}"),
         Err(refusal) => writeln!(stdout, "refused {}", refusal.number()),
@@ -14,7 +15,7 @@ fn show_part(stdout: &mut Stdout, ways: usize, rule: usize, word: u64, map: u16)
 }
 
 // Writes the parts of a file's words, up to the first that cannot be written.
-fn show_file(stdout: &mut Stdout, file: &[u8]) -> Result<()> {
+fn show_file(stdout: &mut impl Write, file: &[u8]) -> Result<()> {
     if let Err(refusal) = tracefile::refusal(file) {
         return writeln!(stdout, "refused {}", refusal.number());
     }
@@ -28,8 +29,18 @@ fn show_file(stdout: &mut Stdout, file: &[u8]) -> Result<()> {
     Ok(())
 }
 
+// What `main` has shown: the parts of a file's words.
+struct Parts;
+
+impl<W: Write> Show<W> for Parts {
+    fn show(&self, output: &mut W, file: &[u8]) -> Result<()> {
+        show_file(&mut Plain { output }, file)
+    }
+}
+
 fn main(rt: HostRuntime) {
-    if let Err(failure) = streams::show_input(&mut rt.stdin(), &mut rt.stdout(), show_file) {
-        let _ = eprintln!(rt; "parts: {failure}");
+    if let Err(failure) = streams::show_input(&mut rt.stdin(), &mut rt.stdout(), &Parts) {
+        let stderr = &mut rt.stderr();
+        let _ = writeln!(Plain { output: stderr }, "parts: {failure}");
     }
 }

@@ -4,7 +4,8 @@
 #![tactic(auto)]
 
 use command::Refusal;
-use std::io::{Result, Stdout, Write};
+use std::io::{Result, Write};
+use streams::{Plain, Show};
 use tracefile::MAX_STEPS;
 
 // The domain that a text names: a number below 16 in decimal, with no zero in front.
@@ -26,7 +27,7 @@ fn split(file: &[u8], n: u32, codes: &mut [u16], arguments: &mut [u64]) {
 }
 
 // Writes a line for each step, up to the first that cannot be written.
-fn show(stdout: &mut Stdout, codes: &[u16], arguments: &[u64]) -> Result<()> {
+fn show(stdout: &mut impl Write, codes: &[u16], arguments: &[u64]) -> Result<()> {
     for (code, argument) in codes.iter().zip(arguments) {
         let step = command::command_of(*code, *argument);
         writeln!(stdout, "{} {} {}", step.domain, step.kind, step.argument)?;
@@ -35,7 +36,7 @@ fn show(stdout: &mut Stdout, codes: &[u16], arguments: &[u64]) -> Result<()> {
 }
 
 // Writes the steps of a file that the purge of a domain keeps.
-fn purge(stdout: &mut Stdout, file: &[u8], domain: usize) -> Result<()> {
+fn purge(stdout: &mut impl Write, file: &[u8], domain: usize) -> Result<()> {
     let n = tracefile::steps(file);
     let steps = (n as usize).min(MAX_STEPS);
     let mut codes = [0; MAX_STEPS];
@@ -56,22 +57,42 @@ fn purge(stdout: &mut Stdout, file: &[u8], domain: usize) -> Result<()> {
 }
 
 // Purges a file that was read to its end.
-fn show_file(stdout: &mut Stdout, file: &[u8], domain: usize) -> Result<()> {
+fn show_file(stdout: &mut impl Write, file: &[u8], domain: usize) -> Result<()> {
     if let Err(Refusal::File) = tracefile::refusal(file) {
         return Ok(());
     }
     purge(stdout, file, domain)
 }
 
+// What `main` has shown: the steps of a file that the purge of a domain keeps.
+#[derive(Clone, Copy)]
+struct Purge {
+    domain: usize,
+}
+
+impl<W: Write> Show<W> for Purge {
+    fn show(&self, output: &mut W, file: &[u8]) -> Result<()> {
+        show_file(&mut Plain { output }, file, self.domain)
+    }
+}
+
 fn main(rt: HostRuntime) {
     let mut name = [0; 4];
     let named = streams::arg(&rt, 1, &mut name).and_then(|length| domain_of(&name[..length]));
+    let stderr = &mut rt.stderr();
+    let mut stderr = Plain { output: stderr };
     let Some(domain) = named else {
-        let _ = eprintln!(rt; "purger: the first argument has to be a domain, 0 to 15");
+        let _ = writeln!(
+            stderr,
+            "purger: the first argument has to be a domain, 0 to 15"
+        );
         return;
     };
-    let show = |stdout: &mut Stdout, file: &[u8]| show_file(stdout, file, domain);
-    if let Err(failure) = streams::show_input(&mut rt.stdin(), &mut rt.stdout(), show) {
-        let _ = eprintln!(rt; "purger: {failure}");
+    if let Err(failure) = streams::show_input(
+        &mut rt.stdin(),
+        &mut rt.stdout(),
+        &Purge { domain },
+    ) {
+        let _ = writeln!(stderr, "purger: {failure}");
     }
 }

@@ -11,29 +11,50 @@
 #![tactic(auto)]
 
 use replacement::Refusal;
-use std::io::{Result, Stdout, Write};
+use std::io::{Result, Write};
 use std::result;
+use streams::{Plain, Show};
+
+// Ends a line with the number of a refusal.
+fn show_refused(stdout: &mut impl Write, refusal: Refusal) -> Result<()> {
+    write!(stdout, " refused")?;
+    writeln!(stdout, " {}", refusal.number())
+}
 
 // Ends a line with the word that a call gave, or the number of its refusal.
-fn show_word(stdout: &mut Stdout, answer: result::Result<u64, Refusal>) -> Result<()> {
+fn show_word(stdout: &mut impl Write, answer: result::Result<u64, Refusal>) -> Result<()> {
     match answer {
         Ok(word) => writeln!(stdout, " {word}"),
-        Err(refusal) => writeln!(stdout, " refused {}", refusal.number()),
+        Err(refusal) => show_refused(stdout, refusal),
     }
 }
 
 // Writes the victim of a word, and the word before its touch.
-fn show_victim(stdout: &mut Stdout, ways: usize, rule: usize, word: u64, map: u16) -> Result<()> {
+fn show_victim(
+    stdout: &mut impl Write,
+    ways: usize,
+    rule: usize,
+    word: u64,
+    map: u16,
+) -> Result<()> {
+    write!(stdout, "victim")?;
     match replacement::victim(ways, rule, word, map) {
-        Ok(choice) => writeln!(stdout, "victim {} {}", choice.way, choice.word),
-        Err(refusal) => writeln!(stdout, "victim refused {}", refusal.number()),
+        Ok(choice) => writeln!(stdout, " {} {}", choice.way, choice.word),
+        Err(refusal) => show_refused(stdout, refusal),
     }
 }
 
 // Writes the touches of all ways, and of the first number that is no way.
-fn show_touches(stdout: &mut Stdout, ways: usize, rule: usize, word: u64, map: u16) -> Result<()> {
+fn show_touches(
+    stdout: &mut impl Write,
+    ways: usize,
+    rule: usize,
+    word: u64,
+    map: u16,
+) -> Result<()> {
     for way in 0..=ways {
-        write!(stdout, "touch {way}")?;
+        write!(stdout, "touch")?;
+        write!(stdout, " {way}")?;
         show_word(stdout, replacement::touch(ways, rule, word, map, way))?;
     }
     Ok(())
@@ -41,7 +62,7 @@ fn show_touches(stdout: &mut Stdout, ways: usize, rule: usize, word: u64, map: u
 
 // Writes what the calls with a word and a map give, and those with the map before it, `old`, too.
 fn show_entry(
-    stdout: &mut Stdout,
+    stdout: &mut impl Write,
     ways: usize,
     rule: usize,
     word: u64,
@@ -53,16 +74,18 @@ fn show_entry(
     show_victim(stdout, ways, rule, word, map)?;
     show_touches(stdout, ways, rule, word, map)?;
     let change = replacement::change_of(ways, rule, old, map);
-    writeln!(stdout, "change {}", replacement::changed(change, word))?;
+    write!(stdout, "change")?;
+    writeln!(stdout, " {}", replacement::changed(change, word))?;
     let number = match replacement::conflict(ways, rule, old, map) {
         Ok(()) => 0,
         Err(refusal) => refusal.number(),
     };
-    writeln!(stdout, "conflict {number}")
+    write!(stdout, "conflict")?;
+    writeln!(stdout, " {number}")
 }
 
 // Writes the lines of all entries, up to the first that cannot be written.
-fn show_entries(stdout: &mut Stdout, file: &[u8], ways: usize, rule: usize) -> Result<()> {
+fn show_entries(stdout: &mut impl Write, file: &[u8], ways: usize, rule: usize) -> Result<()> {
     let n = tracefile::steps(file);
     let mut old = 0;
     for i in 0..n {
@@ -74,9 +97,10 @@ fn show_entries(stdout: &mut Stdout, file: &[u8], ways: usize, rule: usize) -> R
     Ok(())
 }
 
-fn show_file(stdout: &mut Stdout, file: &[u8]) -> Result<()> {
+fn show_file(stdout: &mut impl Write, file: &[u8]) -> Result<()> {
     if let Err(refusal) = tracefile::refusal(file) {
-        return writeln!(stdout, "refused {}", refusal.number());
+        write!(stdout, "refused")?;
+        return writeln!(stdout, " {}", refusal.number());
     }
     let g = geometry::named(file);
     write!(stdout, "fresh")?;
@@ -84,8 +108,18 @@ fn show_file(stdout: &mut Stdout, file: &[u8]) -> Result<()> {
     show_entries(stdout, file, g.ways, g.rule)
 }
 
+// What `main` has shown: the lines of a file.
+struct Lines;
+
+impl<W: Write> Show<W> for Lines {
+    fn show(&self, output: &mut W, file: &[u8]) -> Result<()> {
+        show_file(&mut Plain { output }, file)
+    }
+}
+
 fn main(rt: HostRuntime) {
-    if let Err(failure) = streams::show_input(&mut rt.stdin(), &mut rt.stdout(), show_file) {
-        let _ = eprintln!(rt; "rules: {failure}");
+    if let Err(failure) = streams::show_input(&mut rt.stdin(), &mut rt.stdout(), &Lines) {
+        let stderr = &mut rt.stderr();
+        let _ = writeln!(Plain { output: stderr }, "rules: {failure}");
     }
 }

@@ -7,7 +7,7 @@ ghost use Rattle.std.specs.Prelude.{◌≤◌, length};
 use command::Refusal;
 use domains::{Counts, Domain, Domains};
 use geometry::Geometry;
-use std::io::{Result, Stdout, Write};
+use std::io::{Result, Write};
 use tracefile::MAX_SETS;
 
 // What stands before the trace file.
@@ -52,9 +52,10 @@ fn put_maps(head: &[u8], from: usize, table: &mut [u16])
 }
 
 // Writes the lines of all domains.
-fn show_domains(stdout: &mut Stdout, domains: Domains) -> Result<()> {
+fn show_domains(stdout: &mut impl Write, domains: Domains) -> Result<()> {
     for (d, own) in domains.records.iter().enumerate() {
-        write!(stdout, "domain {d} {} {}", own.hit, own.fill)?;
+        write!(stdout, "domain")?;
+        write!(stdout, " {d} {} {}", own.hit, own.fill)?;
         crate::show_counts(stdout, own.counts)?;
     }
     Ok(())
@@ -62,7 +63,7 @@ fn show_domains(stdout: &mut Stdout, domains: Domains) -> Result<()> {
 
 // Makes the calls of a trace file on what stands before it.
 fn run_lent(
-    stdout: &mut Stdout,
+    stdout: &mut impl Write,
     g: Geometry,
     head: &[u8],
     file: &[u8],
@@ -91,7 +92,7 @@ fn run_lent(
 }
 
 // Lends tables for the sets and ways of a trace file within the limits.
-fn lend(stdout: &mut Stdout, g: Geometry, head: &[u8], file: &[u8], n: u32) -> Result<()> {
+fn lend(stdout: &mut impl Write, g: Geometry, head: &[u8], file: &[u8], n: u32) -> Result<()> {
     let mut tags = [0u64; 16 * MAX_SETS];
     let mut valid = [0u16; MAX_SETS];
     let mut dirty = [0u16; MAX_SETS];
@@ -113,9 +114,9 @@ fn lend(stdout: &mut Stdout, g: Geometry, head: &[u8], file: &[u8], n: u32) -> R
 }
 
 // Writes the lines of a trace file with what stands before it.
-fn show_parts(stdout: &mut Stdout, head: &[u8], file: &[u8]) -> Result<()> {
+fn show_parts(stdout: &mut impl Write, head: &[u8], file: &[u8]) -> Result<()> {
     if let Err(refusal) = tracefile::refusal(file) {
-        return writeln!(stdout, "refused {}", refusal.number());
+        return crate::show_told(stdout, "refused", format_args!(" {}", refusal.number()));
     }
     let n = tracefile::steps(file);
     let g = geometry::named(file);
@@ -124,9 +125,13 @@ fn show_parts(stdout: &mut Stdout, head: &[u8], file: &[u8]) -> Result<()> {
 }
 
 // Writes the lines of a file that has no trace file's length.
-pub fn show_file(stdout: &mut Stdout, file: &[u8]) -> Result<()> {
+pub fn show_file(stdout: &mut impl Write, file: &[u8]) -> Result<()> {
     if file.len() < HEAD {
-        return writeln!(stdout, "refused {}", Refusal::File.number());
+        return crate::show_told(
+            stdout,
+            "refused",
+            format_args!(" {}", Refusal::File.number()),
+        );
     }
     show_parts(stdout, &file[..HEAD], &file[HEAD..])
 }

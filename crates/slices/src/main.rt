@@ -12,27 +12,43 @@ ghost use Rattle.geometry.specs.Geometry.{max_sets};
 use command::Answer;
 use domains::{Counts, Domains};
 use geometry::{Geometry, MAX_SETS};
-use std::io::{Result, Stdout, Write};
+use std::fmt::Display;
+use std::io::{Result, Write};
+use streams::{Plain, Show};
 use tracefile::MAX_STEPS;
 
+// Ends a line with a word and what follows it.
+fn show_told<D: Display + Drop>(stdout: &mut impl Write, word: &str, fields: D) -> Result<()> {
+    write!(stdout, "{word}")?;
+    writeln!(stdout, "{fields}")
+}
+
 // Ends a line with an answer.
-fn show_answer(stdout: &mut Stdout, answer: Answer) -> Result<()> {
+fn show_answer(stdout: &mut impl Write, answer: Answer) -> Result<()> {
     match answer {
-        Answer::Hit(way) => writeln!(stdout, " hit {way}"),
-        Answer::Fill(way) => writeln!(stdout, " fill {way}"),
+        Answer::Hit(way) => show_told(stdout, " hit", format_args!(" {way}")),
+        Answer::Fill(way) => show_told(stdout, " fill", format_args!(" {way}")),
         Answer::Evict { way, tag, dirty } => {
-            writeln!(stdout, " evict {way} {tag} {}", u8::from(dirty))
+            show_told(
+                stdout,
+                " evict",
+                format_args!(" {way} {tag} {}", u8::from(dirty)),
+            )
         }
-        Answer::Pass => writeln!(stdout, " pass"),
-        Answer::Flush { way, dirty } => writeln!(stdout, " flush {way} {}", u8::from(dirty)),
-        Answer::Absent => writeln!(stdout, " absent"),
-        Answer::Policy { dropped, dirty } => writeln!(stdout, " policy {dropped} {dirty}"),
-        Answer::Refused(number) => writeln!(stdout, " refused {number}"),
+        Answer::Pass => stdout.write_all(b" pass\n"),
+        Answer::Flush { way, dirty } => {
+            show_told(stdout, " flush", format_args!(" {way} {}", u8::from(dirty)))
+        }
+        Answer::Absent => stdout.write_all(b" absent\n"),
+        Answer::Policy { dropped, dirty } => {
+            show_told(stdout, " policy", format_args!(" {dropped} {dirty}"))
+        }
+        Answer::Refused(number) => show_told(stdout, " refused", format_args!(" {number}")),
     }
 }
 
 // Ends a line with a domain's counts.
-fn show_counts(stdout: &mut Stdout, counts: Counts) -> Result<()> {
+fn show_counts(stdout: &mut impl Write, counts: Counts) -> Result<()> {
     let Counts {
         hits,
         misses,
@@ -49,10 +65,11 @@ fn show_counts(stdout: &mut Stdout, counts: Counts) -> Result<()> {
 }
 
 // Writes the lines of all domains that have ways.
-fn show_domains(stdout: &mut Stdout, ways: usize, domains: Domains) -> Result<()> {
+fn show_domains(stdout: &mut impl Write, ways: usize, domains: Domains) -> Result<()> {
     for (d, own) in domains.records.iter().enumerate() {
         if policy::as_read(ways, own.maps()).hit != 0 {
-            write!(stdout, "domain {d}")?;
+            write!(stdout, "domain")?;
+            write!(stdout, " {d}")?;
             show_counts(stdout, own.counts)?;
         }
     }
@@ -62,7 +79,7 @@ fn show_domains(stdout: &mut Stdout, ways: usize, domains: Domains) -> Result<()
 // Makes the calls of a file's steps on the lent tables and records, and answers the records after them. Behind a line that cannot be written nothing
 // more is done.
 fn run(
-    stdout: &mut Stdout,
+    stdout: &mut impl Write,
     g: Geometry,
     file: &[u8],
     n: u32,
@@ -104,7 +121,7 @@ fn cells_of(sets: usize, ways: usize) -> usize
 
 // Makes the calls from a fresh cache.
 fn run_fresh(
-    stdout: &mut Stdout,
+    stdout: &mut impl Write,
     g: Geometry,
     file: &[u8],
     n: u32,
@@ -129,7 +146,7 @@ fn run_fresh(
 }
 
 // Lends tables for as many sets and ways as are named; more than there may be are not, and then each call is refused all the same.
-fn lend(stdout: &mut Stdout, g: Geometry, file: &[u8], n: u32) -> Result<()> {
+fn lend(stdout: &mut impl Write, g: Geometry, file: &[u8], n: u32) -> Result<()> {
     let mut tags = [0u64; 16 * MAX_SETS];
     let mut valid = [0u16; MAX_SETS];
     let mut dirty = [0u16; MAX_SETS];
@@ -155,12 +172,12 @@ fn is_whole(file: &[u8], n: usize) -> bool {
 }
 
 // Writes the first line, of a file of n steps.
-fn show_head(stdout: &mut Stdout, g: Geometry, n: u32) -> Result<()> {
+fn show_head(stdout: &mut impl Write, g: Geometry, n: u32) -> Result<()> {
     writeln!(stdout, "{} {} {} {n}", g.sets, g.ways, g.rule)
 }
 
 // Writes the lines of a file.
-fn show_file(stdout: &mut Stdout, file: &[u8]) -> Result<()> {
+fn show_file(stdout: &mut impl Write, file: &[u8]) -> Result<()> {
     let n = tracefile::steps(file);
     if !is_whole(file, n as usize) {
         return lent::show_file(stdout, file);
@@ -170,8 +187,18 @@ fn show_file(stdout: &mut Stdout, file: &[u8]) -> Result<()> {
     lend(stdout, g, file, n)
 }
 
+// What `main` has shown: the lines of a file.
+struct Lines;
+
+impl<W: Write> Show<W> for Lines {
+    fn show(&self, output: &mut W, file: &[u8]) -> Result<()> {
+        show_file(&mut Plain { output }, file)
+    }
+}
+
 fn main(rt: HostRuntime) {
-    if let Err(failure) = streams::show_input(&mut rt.stdin(), &mut rt.stdout(), show_file) {
-        let _ = eprintln!(rt; "slices: {failure}");
+    if let Err(failure) = streams::show_input(&mut rt.stdin(), &mut rt.stdout(), &Lines) {
+        let stderr = &mut rt.stderr();
+        let _ = writeln!(Plain { output: stderr }, "slices: {failure}");
     }
 }

@@ -22,6 +22,7 @@ use row::Lines;
 use selectors::{Core, MAX_CORES, Meaning};
 use std::io;
 use std::io::Stdout;
+use streams::Show;
 use tracefile::MAX_SETS;
 
 // How many bytes of a block stand before its rows.
@@ -431,8 +432,17 @@ fn show_file(stdout: &mut Stdout, file: &[u8]) -> io::Result<()> {
     lend(stdout, g, file)
 }
 
+// What `main` has shown: the blocks of a file.
+struct Blocks;
+
+impl Show<Stdout> for Blocks {
+    fn show(&self, output: &mut Stdout, file: &[u8]) -> io::Result<()> {
+        show_file(output, file)
+    }
+}
+
 fn main(rt: HostRuntime) {
-    if let Err(failure) = streams::show_input(&mut rt.stdin(), &mut rt.stdout(), show_file) {
+    if let Err(failure) = streams::show_input(&mut rt.stdin(), &mut rt.stdout(), &Blocks) {
         let _ = eprintln!(rt; "stepper: {failure}");
     }
 }

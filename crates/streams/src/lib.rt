@@ -166,6 +166,7 @@ pub fn print_decimal<W: Write>(output: &mut W, n: u64) -> Result<()>
 
 // Writes to the output that it is lent. Each piece that `write!` hands on goes by `write_all` above, which stops at the first write that takes nothing or
 // fails; the library's tries again where a write was interrupted.
+#[derive(Drop)]
 pub struct Plain<'a, W> {
     pub output: &'a mut W,
 }
@@ -188,6 +189,7 @@ impl<W: Write> Write for Plain<'_, W> {
 
 // Writes to the output that it is lent, and goes on where a piece could not be written: `write_all` answers that all is well whatever came of it, so that a
 // program by `write!` and `?` tries each piece. What the output holds then nobody learns, so that this writer knows of no contents.
+#[derive(Drop)]
 pub struct Trying<'a, W> {
     pub output: &'a mut W,
 }

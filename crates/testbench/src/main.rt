@@ -10,7 +10,8 @@
 
 ghost use Rattle.std.specs.Prelude.{◌≡◌, length};
 
-use std::io::{Result, Stdout, Write};
+use std::io::{Result, Write};
+use streams::Trying;
 
 // Room for a block, and for an answer.
 const BLOCK: usize = 1024;
@@ -22,8 +23,16 @@ const LENT: u8 = 170;
 
 // ---- Writing
 
+// A digit to base 16.
+fn digit(n: u8) -> u8 {
+    match n % 16 {
+        d @ 0..=9 => b'0' + d,
+        d => b'a' - 10 + d,
+    }
+}
+
 // The bytes that are not as they were, or all. A row has up to 32 bytes that follow each other, and begins with the place of its first one.
-fn show_rows(stdout: &mut Stdout, bytes: &[u8], old: &[u8], all: bool) -> Result<()> {
+fn show_rows(stdout: &mut impl Write, bytes: &[u8], old: &[u8], all: bool) -> Result<()> {
     let mut begun = false;
     for (place, (byte, old)) in bytes.iter().zip(old).enumerate() {
         let shown = all || *byte != *old;
@@ -31,7 +40,8 @@ fn show_rows(stdout: &mut Stdout, bytes: &[u8], old: &[u8], all: bool) -> Result
             if !begun || place % 32 == 0 {
                 write!(stdout, " {place}:")?;
             }
-            write!(stdout, "{byte:02x}")?;
+            // In one piece, where `{byte:02x}` makes two for a byte below 16.
+            stdout.write_all(&[digit(*byte / 16), digit(*byte)])?;
         }
         begun = shown;
     }
@@ -42,7 +52,7 @@ fn show_rows(stdout: &mut Stdout, bytes: &[u8], old: &[u8], all: bool) -> Result
 
 // A step, with a lent answer.
 fn step_with(
-    stdout: &mut Stdout,
+    stdout: &mut impl Write,
     block: &mut [u8],
     answer: &mut [u8],
     numbers: [u64; 5],
@@ -53,7 +63,7 @@ fn step_with(
 }
 
 // A step, with an answer of as many bytes as a line names.
-fn step(stdout: &mut Stdout, block: &mut [u8], numbers: [u64; 5]) -> Result<()> {
+fn step(stdout: &mut impl Write, block: &mut [u8], numbers: [u64; 5]) -> Result<()> {
     let mut answer = [LENT; ANSWER];
     let n = (numbers[1] as usize).min(ANSWER);
     step_with(stdout, block, &mut answer[..n], numbers)
@@ -67,7 +77,7 @@ fn put(block: &mut [u8], place: usize, byte: u64) {
 }
 
 // What a line asks for on the block that is lent.
-fn call(stdout: &mut Stdout, block: &mut [u8], word: u8, numbers: [u64; 5]) -> Result<()> {
+fn call(stdout: &mut impl Write, block: &mut [u8], word: u8, numbers: [u64; 5]) -> Result<()> {
     match word {
         b'f' => {
             let result = block::dipperlock_fresh(block, numbers[1], numbers[2], numbers[3]);
@@ -82,7 +92,7 @@ fn call(stdout: &mut Stdout, block: &mut [u8], word: u8, numbers: [u64; 5]) -> R
 
 // The same, and what it changed.
 fn take(
-    stdout: &mut Stdout,
+    stdout: &mut impl Write,
     block: &mut [u8],
     old: &mut [u8],
     word: u8,
@@ -97,13 +107,13 @@ fn take(
 
 // Does what a line asks for, and answers how many bytes are lent from here on.
 fn do_line(
-    stdout: &mut Stdout,
+    stdout: &mut impl Write,
     block: &mut [u8; BLOCK],
     old: &mut [u8; BLOCK],
     lent: usize,
     line: &[u8],
 ) -> Result<usize> {
-    streams::write_all(stdout, line)?;
+    stdout.write_all(line)?;
     let numbers = script::numbers_of(line);
     match line.first() {
         Some(b'l') => Ok(numbers[1] as usize),
@@ -116,9 +126,9 @@ fn do_line(
     }
 }
 
-// Does what the lines of a script ask for, up to the first that cannot be written.
+// Does what the lines of a script ask for.
 fn run(
-    stdout: &mut Stdout,
+    stdout: &mut impl Write,
     block: &mut [u8; BLOCK],
     old: &mut [u8; BLOCK],
     text: &[u8],
@@ -141,6 +151,12 @@ fn main(rt: HostRuntime) {
     );
     let mut block = [LENT; BLOCK];
     let mut old = [0; BLOCK];
-    // A failed write ends the script, and is not told.
-    let _ = run(&mut rt.stdout(), &mut block, &mut old, &text[..count]);
+    // A failed write is not told, and the pieces behind it are tried.
+    let stdout = &mut rt.stdout();
+    let _ = run(
+        &mut Trying { output: stdout },
+        &mut block,
+        &mut old,
+        &text[..count],
+    );
 }
