@@ -66,11 +66,11 @@ fn show_file(stdout: &mut impl Write, file: &[u8], domain: usize) -> Result<()> 
 
 // What `main` has shown: the steps of a file that the purge of a domain keeps.
 #[derive(Clone, Copy)]
-struct Purge {
+struct Purged {
     domain: usize,
 }
 
-impl<W: Write> Show<W> for Purge {
+impl<W: Write> Show<W> for Purged {
     fn show(&self, output: &mut W, file: &[u8]) -> Result<()> {
         show_file(&mut Plain { output }, file, self.domain)
     }
@@ -91,7 +91,7 @@ fn main(rt: HostRuntime) {
     if let Err(failure) = streams::show_input(
         &mut rt.stdin(),
         &mut rt.stdout(),
-        &Purge { domain },
+        &Purged { domain },
     ) {
         let _ = writeln!(stderr, "purger: {failure}");
     }
