@@ -49,6 +49,11 @@ abbrev pub deed_in : Domain → Result Used Refusal → Tables → Deed
 deed_in x (Ok u) t = deed_of u t
 deed_in x (Err r) t = record { answer = Refused (number_of r); own = x; tables = t }
 
+-- What such a step answers, and the record of its domain after it.
+abbrev pub used_in : Domain → Result Used Refusal → Used
+used_in x (Ok u) = u
+used_in x (Err r) = record { answer = Refused (number_of r); own = x }
+
 -- The outcome of a step by domain d: the record of that domain put back, or all domains as they were.
 abbrev pub outcome_in : ℕ → Domains → Result Used Refusal → Tables → Outcome
 outcome_in d ds (Ok u) t = put_deed d (deed_of u t) ds

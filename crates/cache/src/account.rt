@@ -3,6 +3,7 @@ ghost use Rattle.std.specs.Prelude.{◌≡◌, false, ◌<◌};
 ghost use Rattle.command.specs.declared.Answer.TheVariants.{Policy, Refused};
 ghost use Rattle.command.specs.Refusal.{number_of};
 ghost use Rattle.domains.specs.Domains.{is_full, overflows, put_domain, used_domain, new_domain};
+ghost use Rattle.cache.specs.Inside.{used_in};
 
 use crate::Stepped;
 use command::{Answer, Refusal};
@@ -14,6 +15,26 @@ use sweep::Drops;
 pub struct Used {
     pub answer: Answer,
     pub own: Domain,
+}
+
+// A step turned down by the verdict: nothing of the domain moves.
+pub fn turned_down(refusal: Refusal, own: Domain) -> Used
+    ensures { result ≡ record { answer = Refused (number_of refusal); own = own } }
+{
+    Used {
+        answer: Answer::Refused(refusal.number()),
+        own,
+    }
+}
+
+// A step of the domain with this record, turned down by the verdict or not.
+pub fn settled(own: Domain, done: Result<Used, Refusal>) -> Used
+    ensures { result ≡ used_in own done }
+{
+    match done {
+        Ok(used) => used,
+        Err(refusal) => turned_down(refusal, own),
+    }
 }
 
 // After an access or a flush.
@@ -41,7 +62,7 @@ pub fn after_change(own: Domain, argument: u64, drops: Drops) -> Used
     }
 }
 
-// A step turned down: nothing moves.
+// A step turned down before a domain is looked at: nothing moves.
 pub fn refused(refusal: Refusal, domains: Domains) -> Stepped
     ensures { result ≡ record { answer = Refused (number_of refusal); domains = domains } }
 {

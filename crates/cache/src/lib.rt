@@ -25,7 +25,7 @@ pub struct Stepped {
     pub domains: Domains,
 }
 
-// The step, unless it is turned down: what it answers, and the record of its domain after it.
+// The step, unless it is turned down before a domain is looked at: what it answers, by the verdict too, and the record of its domain after it.
 fn tried(
     g: Geometry,
     tags: &mut [u64],
@@ -46,14 +46,19 @@ fn tried(
     if 16 <= domain {
         return Err(Refusal::Domain);
     }
+    let asked = command::kind_of(kind);
     let own = domains.records[domain];
-    match command::kind_of(kind) {
-        Asked::Line(usage) => work::line(g, tags, valid, dirty, words, own, usage, argument),
+    match asked {
+        Asked::Line(usage) => {
+            let done = work::line(g, tags, valid, dirty, words, own, usage, argument);
+            Ok(account::settled(own, done))
+        }
         Asked::Policy => {
             let policies = domains::policies_of(*domains);
-            work::policy(
+            let done = work::policy(
                 g, tags, valid, dirty, words, own, policies, domain, argument,
-            )
+            );
+            Ok(account::settled(own, done))
         }
         Asked::Unknown => Err(Refusal::Kind),
     }

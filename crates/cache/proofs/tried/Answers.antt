@@ -11,7 +11,7 @@ use Rattle.steps.specs.Step.{drops_of, tables_of}
 use Rattle.steps.proofs.SetLaws.{shaped}
 use Rattle.steps.proofs.StepLaws.{step_refused, step_line, step_policy, step_unknown}
 use Rattle.cache.specs.Inside.{deed_in}
-use Rattle.cache.proofs.OutcomeLaws.{outcome_put, on_ok_always}
+use Rattle.cache.proofs.OutcomeLaws.{outcome_settled}
 use Rattle.cache.proofs.tried.Goals as goal
 
 pub returns-in_err-sizes-clause-step : goal.returns-in_err-sizes-clause-step
@@ -37,14 +37,14 @@ returns-then-domain-ge16-clause-step c =
     c.args.domain c.args.kind c.args.argument c.in_ok-sizes.ensures refl c.if-domain-ge16.true)
     (λ e. omega arith)
 
-pub line-requires : goal.line-requires
-line-requires c =
+pub line-done-requires : goal.line-done-requires
+line-done-requires c =
     let lent = tables_of c.args.tags.now c.args.valid.now c.args.dirty.now c.args.words.now in
     let passed = sizes_passed c.args.g (lengths lent) c.in_ok-sizes.ensures refl in
     shaped c.args.g lent passed.0 passed.1
 
-pub policy-requires : goal.policy-requires
-policy-requires c =
+pub policy-done-requires : goal.policy-done-requires
+policy-done-requires c =
     let lent = tables_of c.args.tags.now c.args.valid.now c.args.dirty.now c.args.words.now in
     let passed = sizes_passed c.args.g (lengths lent) c.in_ok-sizes.ensures refl in
     shaped c.args.g lent passed.0 passed.1
@@ -53,34 +53,29 @@ pub returns-in-Line-clause-step : goal.returns-in-Line-clause-step
 unfolding domain_of
 returns-in-Line-clause-step c =
     let lent = tables_of c.args.tags.now c.args.valid.now c.args.dirty.now c.args.words.now in
-    let left = tables_of c.line.new.tags c.line.new.valid c.line.new.dirty c.line.new.words in
+    let left = tables_of c.line-done.new.tags c.line-done.new.valid c.line-done.new.dirty c.line-done.new.words in
     let ds = c.args.domains.now in
     let passed = sizes_passed c.args.g (lengths lent) c.in_ok-sizes.ensures refl in
-    outcome_put c.args.domain ds c.line.result left
+    outcome_settled c.args.domain ds c.line-done.result left c.settled.ensures
     ∙ step_line c.args.g c.args.domain c.args.kind c.args.argument lent ds (shaped c.args.g lent passed.0 passed.1)
-    c.kind_of.result c.kind_of.ensures c.in_ok-sizes.ensures refl c.if-domain-ge16.false
-    _ {deed = deed_in (domain_of ds c.args.domain) c.line.result left} c.in-Line.is c.line.ensures
+    c.kind_of-asked.result c.kind_of-asked.ensures c.in_ok-sizes.ensures refl c.if-domain-ge16.false
+    _ {deed = deed_in (domain_of ds c.args.domain) c.line-done.result left} c.in-Line.is c.line-done.ensures
 
 pub returns-in-Policy-clause-step : goal.returns-in-Policy-clause-step
 unfolding domain_of
 returns-in-Policy-clause-step c =
     let lent = tables_of c.args.tags.now c.args.valid.now c.args.dirty.now c.args.words.now in
-    let left = tables_of c.policy.new.tags c.policy.new.valid c.policy.new.dirty c.policy.new.words in
+    let left = tables_of c.policy-done.new.tags c.policy-done.new.valid c.policy-done.new.dirty c.policy-done.new.words in
     let ds = c.args.domains.now in
     let passed = sizes_passed c.args.g (lengths lent) c.in_ok-sizes.ensures refl in
-    outcome_put c.args.domain ds c.policy.result left
+    outcome_settled c.args.domain ds c.policy-done.result left c.settled-in-Policy.ensures
     ∙ step_policy c.args.g c.args.domain c.args.kind c.args.argument lent ds (shaped c.args.g lent passed.0 passed.1)
-    c.kind_of.result c.kind_of.ensures c.in_ok-sizes.ensures refl c.if-domain-ge16.false
-    {deed = deed_in (domain_of ds c.args.domain) c.policy.result left} c.in-Policy.is c.policies_of-policies.ensures c.policy.ensures
+    c.kind_of-asked.result c.kind_of-asked.ensures c.in_ok-sizes.ensures refl c.if-domain-ge16.false
+    {deed = deed_in (domain_of ds c.args.domain) c.policy-done.result left} c.in-Policy.is c.policies_of-policies.ensures c.policy-done.ensures
 
 pub returns-in-Unknown-clause-step : goal.returns-in-Unknown-clause-step
 returns-in-Unknown-clause-step c =
     let lent = tables_of c.args.tags.now c.args.valid.now c.args.dirty.now c.args.words.now in
     step_unknown c.args.g c.args.domain c.args.kind c.args.argument lent c.args.domains.now
-    c.kind_of.result c.kind_of.ensures c.in_ok-sizes.ensures refl c.if-domain-ge16.false c.in-Unknown.is
+    c.kind_of-asked.result c.kind_of-asked.ensures c.in_ok-sizes.ensures refl c.if-domain-ge16.false c.in-Unknown.is
 
-pub returns-in-Line-clause-known : goal.returns-in-Line-clause-known
-returns-in-Line-clause-known c = on_ok_always c.line.result c.if-domain-ge16.false
-
-pub returns-in-Policy-clause-known : goal.returns-in-Policy-clause-known
-returns-in-Policy-clause-known c = on_ok_always c.policy.result c.if-domain-ge16.false
