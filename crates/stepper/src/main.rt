@@ -98,18 +98,32 @@ fn tags_of(tags: &[u64], set: usize, ways: usize) -> &[u64]
     &tags[start..start + ways]
 }
 
-// Puts a set's row.
-fn put_row(set: usize, tags: &[u64], valid: u16, dirty: u16, word: u64, row: &mut [u8])
-    requires { 14 + 8 * length tags.now ≤ length row.old }
+// Puts a set's row at a place, and answers the place behind it.
+fn put_row(
+    set: usize,
+    tags: &[u64],
+    valid: u16,
+    dirty: u16,
+    word: u64,
+    out: &mut [u8],
+    at: usize,
+) -> usize
+    requires ways_bound { length tags.now ≤ 16 }
+    requires in_bounds { at + 142 ≤ length out.old }
+    ensures value { result ≡ at + (14 + 8 * length tags.now) }
+    ensures upper_bound { result ≤ at + 142 }
 {
+    let next = at + 14 + 8 * tags.len();
+    let row = &mut out[at..next];
     row[..2].copy_from_slice(&short(set).to_le_bytes());
     row[2..4].copy_from_slice(&valid.to_le_bytes());
     row[4..6].copy_from_slice(&dirty.to_le_bytes());
     row[6..14].copy_from_slice(&word.to_le_bytes());
     for (w, tag) in tags.iter().enumerate() {
-        let at = 14 + 8 * w;
-        row[at..at + 8].copy_from_slice(&tag.to_le_bytes());
+        let place = 14 + 8 * w;
+        row[place..place + 8].copy_from_slice(&tag.to_le_bytes());
     }
+    next
 }
 
 // Puts the rows of a block behind its head, and answers how many bytes it has.
@@ -131,17 +145,8 @@ fn put_rows(
 {
     let mut at = HEAD;
     for set in span.from..span.to {
-        let next = at + 14 + 8 * ways;
         let own = tags_of(tags, set, ways);
-        put_row(
-            set,
-            own,
-            valid[set],
-            dirty[set],
-            words[set],
-            &mut out[at..next],
-        );
-        at = next;
+        at = put_row(set, own, valid[set], dirty[set], words[set], out, at);
     }
     at
 }
@@ -338,7 +343,7 @@ fn take(
     state.visited = unless_refused(turned.stepped.reply, looked);
 }
 
-// Takes the steps of a file of n, and writes the block after each.
+// Takes the steps of a file of n, and writes the block after each, also where one before could not be written. The first failure is told.
 fn show_steps(
     stdout: &mut Stdout,
     g: Geometry,
@@ -355,16 +360,19 @@ fn show_steps(
     requires max_file_sets_in_bounds { 616 + 142 * max_file_sets ≤ length out.old }
 {
     let n = tracefile::steps(file);
+    let mut written = Ok(());
     for i in 0..n {
         let command = tracefile::command_at(file, n, i);
         take(g, command, tags, valid, dirty, words, state);
         let span = span_of(command, g);
-        show(stdout, g.ways, state, span, tags, valid, dirty, words, out)?;
+        let shown = show(stdout, g.ways, state, span, tags, valid, dirty, words, out);
+        written = written.and(shown);
     }
-    Ok(())
+    written
 }
 
-// Writes the blocks of a file that is not refused, on tables of its geometry, and what the domains hold at the end.
+// Writes the blocks of a file that is not refused, on tables of its geometry, and what the domains hold at the end. All is tried, and the first
+// failure is told.
 fn run(
     stdout: &mut Stdout,
     g: Geometry,
@@ -392,9 +400,10 @@ fn run(
         from: 0,
         to: g.sets,
     };
-    show(stdout, g.ways, &state, all, tags, valid, dirty, words, out)?;
-    show_steps(stdout, g, file, tags, valid, dirty, words, &mut state, out)?;
-    show_held(stdout, g.ways, &state.domains, valid)
+    let first = show(stdout, g.ways, &state, all, tags, valid, dirty, words, out);
+    let steps = show_steps(stdout, g, file, tags, valid, dirty, words, &mut state, out);
+    let held = show_held(stdout, g.ways, &state.domains, valid);
+    first.and(steps).and(held)
 }
 
 // Lends the front of the tables, and the output.
