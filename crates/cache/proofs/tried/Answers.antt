@@ -78,4 +78,3 @@ returns-in-Unknown-clause-step c =
     let lent = tables_of c.args.tags.now c.args.valid.now c.args.dirty.now c.args.words.now in
     step_unknown c.args.g c.args.domain c.args.kind c.args.argument lent c.args.domains.now
     c.kind_of-asked.result c.kind_of-asked.ensures c.in_ok-sizes.ensures refl c.if-domain-ge16.false c.in-Unknown.is
-
