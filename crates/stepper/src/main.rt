@@ -113,8 +113,7 @@ fn put_row(
     ensures value { result ≡ at + (14 + 8 * length tags.now) }
     ensures upper_bound { result ≤ at + 142 }
 {
-    let next = at + 14 + 8 * tags.len();
-    let row = &mut out[at..next];
+    let row = &mut out[at..at + 14 + 8 * tags.len()];
     row[..2].copy_from_slice(&short(set).to_le_bytes());
     row[2..4].copy_from_slice(&valid.to_le_bytes());
     row[4..6].copy_from_slice(&dirty.to_le_bytes());
@@ -123,7 +122,7 @@ fn put_row(
         let place = 14 + 8 * w;
         row[place..place + 8].copy_from_slice(&tag.to_le_bytes());
     }
-    next
+    at + row.len()
 }
 
 // Puts the rows of a block behind its head, and answers how many bytes it has.
