@@ -5,6 +5,14 @@ use Rattle.contracts.proofs.Exactly.{exactly}
 use Rattle.contracts.specs.Contract.{Held}
 use Rattle.endian.proofs.at.Reads as EndianAt
 use Rattle.endian.proofs.put.Reads as EndianPut
+use Rattle.endian.proofs.numbers.U8Number.read.Reads as U8Read
+use Rattle.endian.proofs.numbers.U8Number.write.Reads as U8Write
+use Rattle.endian.proofs.numbers.U16Number.read.Reads as U16Read
+use Rattle.endian.proofs.numbers.U16Number.write.Reads as U16Write
+use Rattle.endian.proofs.numbers.U32Number.read.Reads as U32Read
+use Rattle.endian.proofs.numbers.U32Number.write.Reads as U32Write
+use Rattle.endian.proofs.numbers.U64Number.read.Reads as U64Read
+use Rattle.endian.proofs.numbers.U64Number.write.Reads as U64Write
 use Rattle.endian.specs.Bytes.{field, put_field}
 use Rattle.io.specs.Counts.{IsPrefixLen}
 use Rattle.runs.proofs.put.Reads as RunsPut
@@ -173,6 +181,36 @@ module _ (laws : Laws u64) (copy : IsCopy u64) (dict : Dict) (its : Clone.Ghosts
     asks_nothing = λ κs a κ m. none_lent κ m;
     settles = λ κs a r e h. put_plain a.1.0 8 a.0.now a.1.1.0.now e.0.now h;
   }
+
+-- What a type of numbers gives to these: its own `read` and `write`.
+
+u8_read : Held U8Read.Asked U8Read.Learnt (λ κs a r e. let bytes = a.0 in r ≡ field 0 1 bytes.now)
+u8_read = exactly
+
+u8_write : Held U8Write.Asked U8Write.Learnt
+    (λ κs a r e. let self = a.0 in let bytes = a.1.0 in let bytes' = e.1.0 in bytes'.now ≡ put_field 0 1 self bytes.now)
+u8_write = exactly
+
+u16_read : Held U16Read.Asked U16Read.Learnt (λ κs a r e. let bytes = a.0 in r ≡ field 0 2 bytes.now)
+u16_read = exactly
+
+u16_write : Held U16Write.Asked U16Write.Learnt
+    (λ κs a r e. let self = a.0 in let bytes = a.1.0 in let bytes' = e.1.0 in bytes'.now ≡ put_field 0 2 self bytes.now)
+u16_write = exactly
+
+u32_read : Held U32Read.Asked U32Read.Learnt (λ κs a r e. let bytes = a.0 in r ≡ field 0 4 bytes.now)
+u32_read = exactly
+
+u32_write : Held U32Write.Asked U32Write.Learnt
+    (λ κs a r e. let self = a.0 in let bytes = a.1.0 in let bytes' = e.1.0 in bytes'.now ≡ put_field 0 4 self bytes.now)
+u32_write = exactly
+
+u64_read : Held U64Read.Asked U64Read.Learnt (λ κs a r e. let bytes = a.0 in r ≡ field 0 8 bytes.now)
+u64_read = exactly
+
+u64_write : Held U64Write.Asked U64Write.Learnt
+    (λ κs a r e. let self = a.0 in let bytes = a.1.0 in let bytes' = e.1.0 in bytes'.now ≡ put_field 0 8 self bytes.now)
+u64_write = exactly
 
 -- ---- `streams`, of any reader, writer or handle that borrows nothing: all that is asked of one that borrows is that its loans last
 

@@ -67,6 +67,11 @@ pub field_front : (i n k : ℕ) (bytes : List ℕ) → i + n ≤ k → field i n
 unfolding field
 field_front i n k bytes h = ap value (part_in n i k bytes h)
 
+-- of a part that lies from byte k on
+pub field_within : (n k m : ℕ) (bytes : List ℕ) → n ≤ m → field 0 n (take m (drop k bytes)) ≡ field k n bytes
+unfolding field
+field_within n k m bytes h = field_front 0 n m (drop k bytes) (omega (arith, h))
+
 -- ---- a loop over what is left
 
 -- With the bytes from k on read: their value.

@@ -1,23 +1,29 @@
 -- What the types of numbers read and write, and what a part of the bytes holds.
 use mathlib.Core.Path.{◌≡◌, refl, ap, ap₂, sym, ◌∙◌}
+use mathlib.Core.Bool.{Bool, true, false}
 use mathlib.Core.List.{List, [], ◌∷◌, ◌++◌}
 use Prim.Native.Nat.{ℕ, zero, suc, ◌+◌, ◌-◌, ◌*◌, ◌/◌, ◌%◌, ◌^◌, ◌≤◌, ◌<◌}
 use native.Mathlib.Nat.{pow-suc, div-one, div-div-eq-div-mul}
 use native.Mathlib.Omega.{arith}
 use lib.ListN.{length, take, drop, get_or, replicate, take-append-drop, length-drop}
 use lib.Seq.{sets, sets-eq, take-nil, take_all, drop-drop, drop-length}
+use borrow.Author.Tests.{leb-true, leb-false}
+use lib.Dec.{leb}
 use borrow.Rule.Slice.PartMut.{put_mid}
 use Rattle.std.proofs.lemmas.List.{append-nil}
-use Rattle.std.specs.Int.{w16, w32, w64, from_le_bytes, byte_at, bytes_low_first}
+use Rattle.std.specs.Int.{w8, w16, w32, w64, from_le_bytes, byte_at, bytes_low_first}
 use Rattle.std.specs.List.{slice_range}
 use Rattle.endian.specs.Bytes.{value, digits, field, put_field}
-use Rattle.endian.proofs.CutLaws.{take_sets_out, drop_sets_out}
-use Rattle.endian.proofs.DigitLaws.{digits_long, put_whole}
-use Rattle.endian.proofs.FieldLaws.{field_none, field_next, field_behind}
+use Rattle.endian.proofs.CutLaws.{take_sets_in, take_sets_out, drop_sets_in, drop_sets_out}
+use Rattle.endian.proofs.DigitLaws.{digits_long, put_none, put_whole}
+use Rattle.endian.proofs.FieldLaws.{field_none, field_next, field_one, field_behind}
 
 -- ---- read
 
--- Two bytes in a row give their number, and so do four, and eight.
+-- A byte is its number; two bytes in a row give theirs, and so do four, and eight.
+pub field_of_one : (bytes : List ℕ) (r : ℕ) → r ≡ from_le_bytes w8 (get_or bytes 0 0 ∷ []) → r ≡ field 0 1 bytes
+field_of_one bytes r e = e ∙ sym (field_one bytes 0)
+
 pub field_of_two : (bytes : List ℕ) (r : ℕ)
     → r ≡ from_le_bytes w16 (get_or bytes 0 0 ∷ get_or bytes 1 0 ∷ [])
     → r ≡ field 0 2 bytes
@@ -58,6 +64,9 @@ pub field_padded : (n m : ℕ) (bytes : List ℕ) → field 0 n (bytes ++ replic
 unfolding field
 field_padded n m bytes = value_padded n m bytes
 
+pub field_of_padded : (n m : ℕ) (bytes : List ℕ) {whole : List ℕ} → whole ≡ bytes ++ replicate m 0 → field 0 n whole ≡ field 0 n bytes
+field_of_padded n m bytes e = ap (field 0 n) e ∙ field_padded n m bytes
+
 -- ---- written
 
 -- A number's bytes, as a type's own call gives them.
@@ -80,6 +89,10 @@ written n v bytes new h e =
     let long : 0 + length (digits n v) ≡ n = omega (arith, digits_long n v) in
     sym (sets-eq (digits n v) bytes 0 (omega arith) ∙ rw (long, same))
 
+pub put_written : (n v : ℕ) (bytes new : List ℕ) → n ≤ length bytes → new ≡ bytes_low_first 0 n v
+    → new ++ drop n bytes ≡ put_field 0 n v bytes
+put_written n v bytes new h e = written n v bytes new h e ∙ sym (put_whole 0 n v bytes (omega arith))
+
 -- Put into what lies from a place on.
 pub put_from : (i : ℕ) (bytes part vs : List ℕ) → i ≤ length bytes → part ≡ sets (drop i bytes) 0 vs
     → put_mid i (length bytes - i) bytes part ≡ sets bytes i vs
@@ -92,9 +105,38 @@ put_from i bytes part vs h e =
     ∙ ap (λ (xs : List ℕ). xs ++ drop i (sets bytes i vs)) (sym (take_sets_out i i vs bytes (omega arith)))
     ∙ take-append-drop i (sets bytes i vs))
 
+-- Put into a part that has room for it.
+pub put_within : (i k : ℕ) (bytes part vs : List ℕ) → length vs ≤ k → part ≡ sets (take k (drop i bytes)) 0 vs
+    → put_mid i k bytes part ≡ sets bytes i vs
+put_within i k bytes part vs h e =
+    let rest : List ℕ = drop i bytes in
+    let behind : drop i (sets bytes i vs) ≡ sets rest 0 vs = ap (λ (m : ℕ). drop i (sets bytes m vs)) (omega arith) ∙ drop_sets_out i 0 vs bytes in
+    let front : part ≡ take k (sets rest 0 vs) = e ∙ sym (take_sets_in k 0 vs rest (omega (arith, h))) in
+    ap₂ (λ (xs ys : List ℕ). take i bytes ++ (xs ++ ys)) front (sym (drop_sets_in k 0 vs rest (omega (arith, h))))
+    ∙ ap (λ (xs : List ℕ). take i bytes ++ xs) (take-append-drop k (sets rest 0 vs) ∙ sym behind)
+    ∙ ap (λ (xs : List ℕ). xs ++ drop i (sets bytes i vs)) (sym (take_sets_out i i vs bytes (omega arith)))
+    ∙ take-append-drop i (sets bytes i vs)
+
 pub put_part : (i n v : ℕ) (bytes part : List ℕ) → i + n ≤ length bytes → part ≡ sets (drop i bytes) 0 (digits n v)
     → put_mid i (length bytes - i) bytes part ≡ put_field i n v bytes
 put_part i n v bytes part h e = put_from i bytes part (digits n v) (omega arith) e ∙ sym (put_whole i n v bytes h)
+
+-- Where there is no room in it, there is none in the whole.
+pub put_rest : (i n v : ℕ) (bytes part : List ℕ) → i ≤ length bytes → part ≡ put_field 0 n v (drop i bytes)
+    → put_mid i (length bytes - i) bytes part ≡ put_field i n v bytes
+put_rest i n v bytes part h e =
+    decided (leb (i + n) (length bytes)) refl
+  where
+    long : length (drop i bytes) ≡ length bytes - i
+    long = length-drop i bytes
+
+    decided : (t : Bool) → leb (i + n) (length bytes) ≡ t → put_mid i (length bytes - i) bytes part ≡ put_field i n v bytes
+    decided true r =
+        let room : i + n ≤ length bytes = leb-true (i + n) (length bytes) r in
+        put_part i n v bytes part room (e ∙ put_whole 0 n v (drop i bytes) (omega (arith, long)))
+    decided false r =
+        let none : length bytes < i + n = leb-false (i + n) (length bytes) r in
+        put_from i bytes part [] h (e ∙ put_none 0 n v (drop i bytes) (omega (arith, long))) ∙ sym (put_none i n v bytes none)
 
 -- What lies from a place on has at its front what the whole has there.
 pub field_rest : (n i : ℕ) (bytes rest : List ℕ) → rest ≡ slice_range bytes i (length bytes) → field 0 n rest ≡ field i n bytes

@@ -3,7 +3,7 @@
 
 mod numbers;
 
-ghost use Rattle.std.specs.Prelude.{◌≡◌, ◌≤◌, length};
+ghost use Rattle.std.specs.Prelude.{◌≡◌};
 ghost use Rattle.endian.specs.Bytes.{field, put_field};
 
 pub use numbers::Number;
@@ -13,27 +13,16 @@ pub fn at<N: Number>(bytes: &[u8], place: usize) -> N
     ensures { N.number result ≡ field place N.WIDTH bytes.now }
 {
     match bytes.get(place..) {
-        Some(rest) if N::WIDTH <= rest.len() => N::read(rest),
-        Some(rest) => padded(rest),
-        None => padded(&[]),
+        Some(rest) => N::read(rest),
+        None => N::read(&[]),
     }
-}
-
-// Of fewer bytes than a number has.
-fn padded<N: Number>(bytes: &[u8]) -> N
-    requires { length bytes.now ≤ N.WIDTH }
-    ensures { N.number result ≡ field 0 N.WIDTH bytes.now }
-{
-    let mut whole = [0; 8];
-    whole[..bytes.len()].copy_from_slice(bytes);
-    N::read(&whole)
 }
 
 // A number put at a place; one that would reach past the end is not written.
 pub fn put<N: Number>(bytes: &mut [u8], place: usize, value: N)
     ensures { bytes.new ≡ put_field place N.WIDTH (N.number value) bytes.old }
 {
-    if place <= bytes.len() && N::WIDTH <= bytes.len() - place {
+    if place <= bytes.len() {
         value.write(&mut bytes[place..]);
     }
 }

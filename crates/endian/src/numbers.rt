@@ -1,8 +1,7 @@
 // What has to be known of a type whose numbers lie in bytes, and the types.
-ghost use Rattle.std.specs.Prelude.{◌≡◌, ℕ, ◌≤◌, length};
+ghost use Rattle.std.specs.Prelude.{◌≡◌, ℕ, ◌≤◌, ◌-◌, ◌++◌, length, replicate};
 ghost use Rattle.std.proofs.Common.{rules};
-ghost use Rattle.std.proofs.lemmas.List.Edits.{sets};
-ghost use Rattle.endian.specs.Bytes.{field, digits};
+ghost use Rattle.endian.specs.Bytes.{field, put_field};
 
 // A type of numbers of at most eight bytes, which lie with the lowest first.
 pub trait Number: Copy {
@@ -14,15 +13,13 @@ pub trait Number: Copy {
     // Which number a value is.
     ghost number: { Self → ℕ };
 
-    // The number in the first bytes.
+    // The number in the first bytes; bytes behind the end are 0.
     fn read(bytes: &[u8]) -> Self
-        requires { WIDTH ≤ length bytes.now }
         ensures { number result ≡ field 0 WIDTH bytes.now };
 
-    // The number written over the first bytes.
+    // The number written over the first bytes; where there are too few, none is.
     fn write(self, bytes: &mut [u8])
-        requires { WIDTH ≤ length bytes.old }
-        ensures { bytes.new ≡ sets bytes.old 0 (digits WIDTH (number self)) };
+        ensures { bytes.new ≡ put_field 0 WIDTH (number self) bytes.old };
 
     // A number has a byte, and at most eight.
     ghost some: { 1 ≤ WIDTH };
@@ -38,11 +35,16 @@ impl Number for u8 {
     ghost number = { λ n. n };
 
     fn read(bytes: &[u8]) -> u8 {
-        bytes[0]
+        if bytes.len() < 1 {
+            return u8::from_le_bytes(padded(bytes));
+        }
+        u8::from_le_bytes([bytes[0]])
     }
 
     fn write(self, bytes: &mut [u8]) {
-        bytes[0] = self;
+        if 1 <= bytes.len() {
+            bytes[0] = self;
+        }
     }
 
     ghost some = { Prim.search rules };
@@ -58,11 +60,16 @@ impl Number for u16 {
     ghost number = { λ n. n };
 
     fn read(bytes: &[u8]) -> u16 {
+        if bytes.len() < 2 {
+            return u16::from_le_bytes(padded(bytes));
+        }
         u16::from_le_bytes([bytes[0], bytes[1]])
     }
 
     fn write(self, bytes: &mut [u8]) {
-        bytes[..2].copy_from_slice(&self.to_le_bytes());
+        if 2 <= bytes.len() {
+            bytes[..2].copy_from_slice(&self.to_le_bytes());
+        }
     }
 
     ghost some = { Prim.search rules };
@@ -78,11 +85,16 @@ impl Number for u32 {
     ghost number = { λ n. n };
 
     fn read(bytes: &[u8]) -> u32 {
+        if bytes.len() < 4 {
+            return u32::from_le_bytes(padded(bytes));
+        }
         u32::from_le_bytes([bytes[0], bytes[1], bytes[2], bytes[3]])
     }
 
     fn write(self, bytes: &mut [u8]) {
-        bytes[..4].copy_from_slice(&self.to_le_bytes());
+        if 4 <= bytes.len() {
+            bytes[..4].copy_from_slice(&self.to_le_bytes());
+        }
     }
 
     ghost some = { Prim.search rules };
@@ -98,16 +110,31 @@ impl Number for u64 {
     ghost number = { λ n. n };
 
     fn read(bytes: &[u8]) -> u64 {
+        if bytes.len() < 8 {
+            return u64::from_le_bytes(padded(bytes));
+        }
         u64::from_le_bytes([
             bytes[0], bytes[1], bytes[2], bytes[3], bytes[4], bytes[5], bytes[6], bytes[7],
         ])
     }
 
     fn write(self, bytes: &mut [u8]) {
-        bytes[..8].copy_from_slice(&self.to_le_bytes());
+        if 8 <= bytes.len() {
+            bytes[..8].copy_from_slice(&self.to_le_bytes());
+        }
     }
 
     ghost some = { Prim.search rules };
 
     ghost few = { Prim.search rules };
+}
+
+// Fewer bytes than N, and zeros behind them.
+fn padded<const N: usize>(bytes: &[u8]) -> [u8; N]
+    requires { length bytes.now ≤ N }
+    ensures { result ≡ bytes.now ++ replicate (N - length bytes.now) 0 }
+{
+    let mut whole = [0; N];
+    whole[..bytes.len()].copy_from_slice(bytes);
+    whole
 }

@@ -2,21 +2,21 @@
 use mathlib.Core.Path.{◌≡◌, refl, sym, ap, ap₂, ◌∙◌}
 use mathlib.Core.List.{List, [], ◌∷◌, ◌++◌, map, append_assoc}
 use Prim.Native.Nat.{ℕ, ◌+◌, ◌-◌, ◌*◌, ◌/◌, ◌≤◌, ◌<◌}
-use native.Mathlib.Nat.{zero-add, le_refl, mul-suc, mul_comm, mul-zero, add-zero, mul-le-mul, le-div_iff_mul-le, div-lt_iff_lt-mul}
+use native.Mathlib.Nat.{zero-add, mul-suc, mul_comm, mul-zero, add-zero, mul-le-mul, le-div_iff_mul-le, div-lt_iff_lt-mul}
 use native.Mathlib.Numerals.{add-one}
 use native.Mathlib.Omega.{arith}
 use lib.Dec.{eqb}
-use lib.ListN.{length, get_or, take, drop, set, length-set, length-drop, drop_of_length-le}
-use lib.Seq.{sets, sets-eq, length-sets, take_all, drop-cons, ext_get_or, get_or-set_same, get_or-set_other}
+use lib.ListN.{length, get_or, take, drop, set, length-set, drop_of_length-le}
+use lib.Seq.{sets, sets-eq, length-sets, drop-cons, ext_get_or, get_or-set_same, get_or-set_other}
 use borrow.Author.Tests.{eqb-true, eqb-false, le-leb, lt-leb}
 use borrow.Rule.Slice.PartMut.{put_mid, mid_len, Post-is}
 use Rattle.std.proofs.lemmas.List.{map-id}
 use Rattle.waymap.proofs.Booleans.{cases}
-use Rattle.endian.specs.Bytes.{digits, field, cut, joined}
+use Rattle.endian.specs.Bytes.{digits, field, put_field, cut, joined}
 use Rattle.runs.specs.Runs.{numbers, bytes_of, read_run, put_run}
-use Rattle.endian.proofs.DigitLaws.{digits_long, sets_append}
+use Rattle.endian.proofs.DigitLaws.{digits_long, sets_append, put_whole}
 use Rattle.endian.proofs.CutLaws.{sets_all}
-use Rattle.endian.proofs.NumberLaws.{put_from}
+use Rattle.endian.proofs.NumberLaws.{put_within}
 use Rattle.runs.proofs.TableLaws.{number_at, numbers_long, numbers_front, bytes_long}
 
 -- ---- taken out
@@ -79,19 +79,18 @@ store_turned {n} {before} {at} {xs} {bytes} {i} {after} l h put =
           ∙ l.is;
     }
 
--- By one number more, written over the front of what lies from its place on.
-pub stored_next : {n : ℕ} {before xs bytes : List ℕ} {i : ℕ} (k : ℕ) (part : List ℕ) → Storing n before 0 xs bytes i → i < length xs
-    → n * length xs ≤ length before → k ≡ n * i
-    → part ≡ sets (take (length bytes - k) (drop k bytes)) 0 (digits n (get_or xs i 0))
-    → Storing n before 0 xs (put_mid k (length bytes - k) bytes part) (i + 1)
-stored_next {n} {before} {xs} {bytes} {i} k part l h room e written =
-    let vs : List ℕ = digits n (get_or xs i 0) in
-    let most : n * (i + 1) ≤ n * length xs = mul-le-mul (le_refl n) (omega arith) in
+-- By one number more, put into a part that begins at its place and has room for it.
+pub stored_next : {n : ℕ} {before xs bytes : List ℕ} {i : ℕ} (k e : ℕ) (part : List ℕ) → Storing n before 0 xs bytes i → i < length xs
+    → k ≡ n * i → n * (i + 1) ≤ e → e ≤ length bytes
+    → part ≡ put_field 0 n (get_or xs i 0) (take (e - k) (drop k bytes))
+    → Storing n before 0 xs (put_mid k (e - k) bytes part) (i + 1)
+stored_next {n} {before} {xs} {bytes} {i} k e part l h start room end put =
+    let v : ℕ = get_or xs i 0 in
     let next : n * (i + 1) ≡ n * i + n = rw (add-one i, mul-suc n i) in
-    let all : take (length bytes - k) (drop k bytes) ≡ drop k bytes = take_all (length bytes - k) (drop k bytes) (omega (arith, length-drop k bytes)) in
-    let put : put_mid k (length bytes - k) bytes part ≡ sets bytes k vs =
-    put_from k bytes part vs (omega (arith, l.long)) (written ∙ ap (λ (ys : List ℕ). sets ys 0 vs) all) in
-    store_turned l h (put ∙ ap (λ (p : ℕ). sets bytes p vs) (e ∙ sym (zero-add (n * i))))
+    let long : length (take (e - k) (drop k bytes)) ≡ e - k = mid_len k e bytes end in
+    let here : part ≡ sets (take (e - k) (drop k bytes)) 0 (digits n v) = put ∙ put_whole 0 n v (take (e - k) (drop k bytes)) (omega (arith, long)) in
+    let whole : put_mid k (e - k) bytes part ≡ sets bytes k (digits n v) = put_within k (e - k) bytes part (digits n v) (omega (arith, digits_long n v)) here in
+    store_turned l h (whole ∙ ap (λ (p : ℕ). sets bytes p (digits n v)) (start ∙ sym (zero-add (n * i))))
 
 pub store_end : {n : ℕ} {before : List ℕ} {at : ℕ} {xs bytes : List ℕ} {i : ℕ} → Storing n before at xs bytes i → length xs ≤ i
     → bytes ≡ sets before at (bytes_of n xs)

@@ -23,7 +23,7 @@ fn load<N: Number>(bytes: &[u8], numbers: &mut [N])
     ensures { map N.number numbers.new ≡ numbers_in N.WIDTH (length numbers.old) bytes.now }
 {
     for (i, number) in numbers.iter_mut().enumerate() {
-        *number = N::read(&bytes[N::WIDTH * i..]);
+        *number = N::read(&bytes[N::WIDTH * i..N::WIDTH * (i + 1)]);
     }
 }
 
@@ -43,6 +43,6 @@ fn store<N: Number>(bytes: &mut [u8], numbers: &[N])
     ensures { bytes.new ≡ sets bytes.old 0 (bytes_of N.WIDTH (map N.number numbers.now)) }
 {
     for (i, number) in numbers.iter().enumerate() {
-        number.write(&mut bytes[N::WIDTH * i..]);
+        number.write(&mut bytes[N::WIDTH * i..N::WIDTH * (i + 1)]);
     }
 }

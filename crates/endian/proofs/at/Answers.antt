@@ -9,11 +9,7 @@ pub returns-in-Some : goal.returns-in-Some
 returns-in-Some g c =
     c.read.ensures ∙ field_rest g.N.Number.WIDTH c.args.place c.args.bytes.now c.in-Some.rest.now (search rules)
 
-pub returns-in-Some-2 : goal.returns-in-Some-2
-returns-in-Some-2 g c =
-    c.padded.ensures ∙ field_rest g.N.Number.WIDTH c.args.place c.args.bytes.now c.in-Some.rest.now (search rules)
-
 pub returns-in-None : goal.returns-in-None
 returns-in-None g c =
-    c.padded-in-None.ensures
+    c.read-in-None.ensures
     ∙ field_of_none g.N.Number.WIDTH c.args.place c.args.bytes.now (elim c.in-None.ensures.lookup.0 [ inl h ↦ omega arith | inr h ↦ omega arith ])

@@ -1,18 +1,25 @@
 -- `runs::load` meets its contract.
-use mathlib.Core.Path.{refl, ◌∙◌}
-use Prim.Native.Nat.{◌*◌}
+use mathlib.Core.Path.{◌≡◌, ◌∙◌}
+use Prim.Native.Nat.{◌+◌, ◌-◌, ◌*◌}
+use native.Mathlib.Nat.{mul-suc}
+use native.Mathlib.Numerals.{add-one}
 use native.Mathlib.Omega.{arith}
 use Rattle.std.proofs.lemmas.List.{map-set, length-map}
-use Rattle.endian.proofs.NumberLaws.{field_rest}
+use Rattle.endian.proofs.FieldLaws.{field_within}
 use Rattle.runs.proofs.RunLaws.{load_turned, load_end}
 use Rattle.runs.proofs.load.Goals as goal
 
 pub loop-i-preserved : goal.loop-i-preserved
 loop-i-preserved g c =
     let number = g.N.Number.number in
+    let n = g.N.Number.WIDTH in
+    let i = c.loop-i.i in
     let long = length-map c.loop-i.numbers number in
-    rw (map-set number c.loop-i.numbers c.loop-i.i c.read.result)
-    (load_turned c.loop-i.invariant (omega (arith, long, c.loop-i-test.true)) (rw c.WIDTH.ensures at (c.read.ensures ∙ field_rest g.N.Number.WIDTH (c.WIDTH.result * c.loop-i.i) c.args.bytes.now _ refl)))
+    let next : n * (i + 1) ≡ n * i + n = rw (add-one i, mul-suc n i) in
+    let value = rw (c.WIDTH.ensures, c.WIDTH-in-loop-i.ensures) at c.read.ensures in
+    rw (map-set number c.loop-i.numbers i c.read.result)
+    (load_turned c.loop-i.invariant (omega (arith, long, c.loop-i-test.true))
+    (value ∙ field_within n (n * i) (n * (i + 1) - n * i) c.args.bytes.now (omega (arith, next))))
 
 pub returns : goal.returns
 returns g c =

@@ -1,4 +1,7 @@
 -- `runs::store` meets its contract.
+use Prim.Native.Nat.{◌+◌, ◌*◌, ◌≤◌}
+use lib.ListN.{length}
+use native.Mathlib.Nat.{le_refl, mul-le-mul}
 use native.Mathlib.Omega.{arith}
 use Rattle.std.proofs.lemmas.List.{length-map, get_or-map}
 use Rattle.runs.proofs.RunLaws.{store_end, stored_next}
@@ -10,8 +13,11 @@ loop-i-preserved g c =
     let xs = c.args.numbers.now in
     let one = c.index-numbers-i.result in
     let value = get_or-map number xs c.loop-i.i one 0 c.loop-i-test.true in
-    stored_next _ c.write.new.bytes c.loop-i.invariant (omega (arith, length-map xs number, c.loop-i-test.true)) (rw (length-map xs number) c.requires)
-    (rw c.WIDTH.ensures) (rw (value, ← c.index-numbers-i.is) c.write.ensures)
+    let n = g.N.Number.WIDTH in
+    let all : n * (c.loop-i.i + 1) ≤ n * length xs = mul-le-mul (le_refl n) (omega (arith, c.loop-i-test.true)) in
+    stored_next _ _ c.write.new.bytes c.loop-i.invariant (omega (arith, length-map xs number, c.loop-i-test.true)) (rw c.WIDTH.ensures)
+    (rw c.WIDTH-in-loop-i.ensures (le_refl _)) (rw c.WIDTH-in-loop-i.ensures (omega (arith, all, c.requires, c.loop-i.invariant.long)))
+    (rw (value, ← c.index-numbers-i.is) c.write.ensures)
 
 pub returns : goal.returns
 returns g c =
