@@ -89,7 +89,8 @@ stored_next {n} {before} {xs} {bytes} {i} k e part l h start room end put =
     let next : n * (i + 1) ≡ n * i + n = rw (add-one i, mul-suc n i) in
     let long : length (take (e - k) (drop k bytes)) ≡ e - k = mid_len k e bytes end in
     let here : part ≡ sets (take (e - k) (drop k bytes)) 0 (digits n v) = put ∙ put_whole 0 n v (take (e - k) (drop k bytes)) (omega (arith, long)) in
-    let whole : put_mid k (e - k) bytes part ≡ sets bytes k (digits n v) = put_within k (e - k) bytes part (digits n v) (omega (arith, digits_long n v)) here in
+    let whole : put_mid k (e - k) bytes part ≡ sets bytes k (digits n v) =
+    put_within k (e - k) bytes part (digits n v) (omega (arith, digits_long n v)) here in
     store_turned l h (whole ∙ ap (λ (p : ℕ). sets bytes p (digits n v)) (start ∙ sym (zero-add (n * i))))
 
 pub store_end : {n : ℕ} {before : List ℕ} {at : ℕ} {xs bytes : List ℕ} {i : ℕ} → Storing n before at xs bytes i → length xs ≤ i

@@ -1,5 +1,6 @@
 -- `runs::store` meets its contract.
-use Prim.Native.Nat.{◌+◌, ◌*◌, ◌≤◌}
+use mathlib.Core.Path.{ap}
+use Prim.Native.Nat.{ℕ, ◌+◌, ◌*◌, ◌≤◌}
 use lib.ListN.{length}
 use native.Mathlib.Nat.{le_refl, mul-le-mul}
 use native.Mathlib.Omega.{arith}
@@ -15,7 +16,8 @@ loop-i-preserved g c =
     let value = get_or-map number xs c.loop-i.i one 0 c.loop-i-test.true in
     let n = g.N.Number.WIDTH in
     let all : n * (c.loop-i.i + 1) ≤ n * length xs = mul-le-mul (le_refl n) (omega (arith, c.loop-i-test.true)) in
-    stored_next _ _ c.write.new.bytes c.loop-i.invariant (omega (arith, length-map xs number, c.loop-i-test.true)) (rw c.WIDTH.ensures)
+    stored_next _ _ c.write.new.bytes c.loop-i.invariant (omega (arith, length-map xs number, c.loop-i-test.true))
+    (ap (λ (w : ℕ). w * c.loop-i.i) c.WIDTH.ensures)
     (rw c.WIDTH-in-loop-i.ensures (le_refl _)) (rw c.WIDTH-in-loop-i.ensures (omega (arith, all, c.requires, c.loop-i.invariant.long)))
     (rw (value, ← c.index-numbers-i.is) c.write.ensures)
 
