@@ -3,7 +3,7 @@
 #![tactic(auto)]
 
 use std::io::{Result, Write};
-use streams::{Plain, Show};
+use streams::{Failure, Show};
 use trace::TAGS;
 use tracefile::MAX_SETS;
 
@@ -31,7 +31,11 @@ impl<W: Write> Show<W> for Listing {
 
 fn main(rt: HostRuntime) {
     if let Err(failure) = streams::show_input(&mut rt.stdin(), &mut rt.stdout(), &Listing) {
-        let stderr = &mut rt.stderr();
-        let _ = writeln!(Plain { output: stderr }, "lister: {failure}");
+        // In one write.
+        let told: &[u8] = match failure {
+            Failure::Input => b"lister: standard input could not be read to its end\n",
+            Failure::Output => b"lister: standard output could not be written\n",
+        };
+        let _ = streams::write_all(&mut rt.stderr(), told);
     }
 }

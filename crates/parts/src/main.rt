@@ -4,7 +4,7 @@
 #![tactic(auto)]
 
 use std::io::{Result, Write};
-use streams::{Plain, Show};
+use streams::{Failure, Plain, Show};
 
 // Writes the own part of a word, or why there is none.
 fn show_part(stdout: &mut impl Write, ways: usize, rule: usize, word: u64, map: u16) -> Result<()> {
@@ -40,7 +40,11 @@ impl<W: Write> Show<W> for Parts {
 
 fn main(rt: HostRuntime) {
     if let Err(failure) = streams::show_input(&mut rt.stdin(), &mut rt.stdout(), &Parts) {
-        let stderr = &mut rt.stderr();
-        let _ = writeln!(Plain { output: stderr }, "parts: {failure}");
+        // In one write.
+        let told: &[u8] = match failure {
+            Failure::Input => b"parts: standard input could not be read to its end\n",
+            Failure::Output => b"parts: standard output could not be written\n",
+        };
+        let _ = streams::write_all(&mut rt.stderr(), told);
     }
 }

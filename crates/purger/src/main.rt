@@ -5,7 +5,7 @@
 
 use command::Refusal;
 use std::io::{Result, Write};
-use streams::{Plain, Show};
+use streams::{Failure, Plain, Show};
 use tracefile::MAX_STEPS;
 
 // The domain that a text names: a number below 16 in decimal, with no zero in front.
@@ -79,13 +79,9 @@ impl<W: Write> Show<W> for Purged {
 fn main(rt: HostRuntime) {
     let mut name = [0; 4];
     let named = streams::arg(&rt, 1, &mut name).and_then(|length| domain_of(&name[..length]));
-    let stderr = &mut rt.stderr();
-    let mut stderr = Plain { output: stderr };
     let Some(domain) = named else {
-        let _ = writeln!(
-            stderr,
-            "purger: the first argument has to be a domain, 0 to 15"
-        );
+        let told = b"purger: the first argument has to be a domain, 0 to 15\n";
+        let _ = streams::write_all(&mut rt.stderr(), told);
         return;
     };
     if let Err(failure) = streams::show_input(
@@ -93,6 +89,11 @@ fn main(rt: HostRuntime) {
         &mut rt.stdout(),
         &Purged { domain },
     ) {
-        let _ = writeln!(stderr, "purger: {failure}");
+        // In one write.
+        let told: &[u8] = match failure {
+            Failure::Input => b"purger: standard input could not be read to its end\n",
+            Failure::Output => b"purger: standard output could not be written\n",
+        };
+        let _ = streams::write_all(&mut rt.stderr(), told);
     }
 }

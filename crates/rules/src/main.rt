@@ -13,7 +13,7 @@
 use replacement::Refusal;
 use std::io::{Result, Write};
 use std::result;
-use streams::{Plain, Show};
+use streams::{Failure, Plain, Show};
 
 // Ends a line with the number of a refusal.
 fn show_refused(stdout: &mut impl Write, refusal: Refusal) -> Result<()> {
@@ -119,7 +119,11 @@ impl<W: Write> Show<W> for Lines {
 
 fn main(rt: HostRuntime) {
     if let Err(failure) = streams::show_input(&mut rt.stdin(), &mut rt.stdout(), &Lines) {
-        let stderr = &mut rt.stderr();
-        let _ = writeln!(Plain { output: stderr }, "rules: {failure}");
+        // In one write.
+        let told: &[u8] = match failure {
+            Failure::Input => b"rules: standard input could not be read to its end\n",
+            Failure::Output => b"rules: standard output could not be written\n",
+        };
+        let _ = streams::write_all(&mut rt.stderr(), told);
     }
 }

@@ -14,7 +14,7 @@ use domains::{Counts, Domains};
 use geometry::{Geometry, MAX_SETS};
 use std::fmt::Display;
 use std::io::{Result, Write};
-use streams::{Plain, Show};
+use streams::{Failure, Plain, Show};
 use tracefile::MAX_STEPS;
 
 // Ends a line with a word and what follows it.
@@ -198,7 +198,11 @@ impl<W: Write> Show<W> for Lines {
 
 fn main(rt: HostRuntime) {
     if let Err(failure) = streams::show_input(&mut rt.stdin(), &mut rt.stdout(), &Lines) {
-        let stderr = &mut rt.stderr();
-        let _ = writeln!(Plain { output: stderr }, "slices: {failure}");
+        // In one write.
+        let told: &[u8] = match failure {
+            Failure::Input => b"slices: standard input could not be read to its end\n",
+            Failure::Output => b"slices: standard output could not be written\n",
+        };
+        let _ = streams::write_all(&mut rt.stderr(), told);
     }
 }

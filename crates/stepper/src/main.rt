@@ -22,7 +22,7 @@ use row::Lines;
 use selectors::{Core, MAX_CORES, Meaning};
 use std::io;
 use std::io::Stdout;
-use streams::Show;
+use streams::{Failure, Show};
 use tracefile::MAX_SETS;
 
 // How many bytes of a block stand before its rows.
@@ -451,6 +451,11 @@ impl Show<Stdout> for Blocks {
 
 fn main(rt: HostRuntime) {
     if let Err(failure) = streams::show_input(&mut rt.stdin(), &mut rt.stdout(), &Blocks) {
-        let _ = eprintln!(rt; "stepper: {failure}");
+        // In one write.
+        let told: &[u8] = match failure {
+            Failure::Input => b"stepper: standard input could not be read to its end\n",
+            Failure::Output => b"stepper: standard output could not be written\n",
+        };
+        let _ = streams::write_all(&mut rt.stderr(), told);
     }
 }
