@@ -18,7 +18,7 @@ use cores::{Reply, Stepped};
 use domains::Domains;
 use geometry::Geometry;
 use selectors::Core;
-use std::io::{Result, Write};
+use std::io::{Result, Stdout, Write};
 use streams::Trying;
 
 // How many records there are.
@@ -198,7 +198,7 @@ fn do_line(
 
 // Does what the lines of a script ask for.
 fn run(
-    stdout: &mut impl Write,
+    stdout: &mut Trying<'_, Stdout>,
     tags: &mut [u64; 4],
     valid: &mut [u16; 1],
     dirty: &mut [u16; 1],

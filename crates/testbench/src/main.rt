@@ -10,7 +10,7 @@
 
 ghost use Rattle.std.specs.Prelude.{◌≡◌, length};
 
-use std::io::{Result, Write};
+use std::io::{Result, Stdout, Write};
 use streams::Trying;
 
 // Room for a block, and for an answer.
@@ -128,7 +128,7 @@ fn do_line(
 
 // Does what the lines of a script ask for.
 fn run(
-    stdout: &mut impl Write,
+    stdout: &mut Trying<'_, Stdout>,
     block: &mut [u8; BLOCK],
     old: &mut [u8; BLOCK],
     text: &[u8],
