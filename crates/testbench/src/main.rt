@@ -18,6 +18,9 @@ const BLOCK: usize = 1024;
 
 const ANSWER: usize = 64;
 
+// How many bytes a row has.
+const ROW: usize = 32;
+
 // What stands in a byte that no call has written.
 const LENT: u8 = 170;
 
@@ -31,19 +34,35 @@ fn digit(n: u8) -> u8 {
     }
 }
 
-// The bytes that are not as they were, or all. A row has up to 32 bytes that follow each other, and begins with the place of its first one.
-fn show_rows(stdout: &mut impl Write, bytes: &[u8], old: &[u8], all: bool) -> Result<()> {
+// The bytes of a row that are not as they were, or all. Those that follow each other begin with the place of the first one.
+fn show_row(
+    stdout: &mut impl Write,
+    first: usize,
+    row: &[u8],
+    old: &[u8],
+    all: bool,
+) -> Result<()> {
     let mut begun = false;
-    for (place, (byte, old)) in bytes.iter().zip(old).enumerate() {
+    for (i, (byte, old)) in row.iter().zip(old).enumerate() {
         let shown = all || *byte != *old;
         if shown {
-            if !begun || place % 32 == 0 {
-                write!(stdout, " {place}:")?;
+            if !begun {
+                write!(stdout, " {}:", first.saturating_add(i))?;
             }
             // In one piece, where `{byte:02x}` makes two for a byte below 16.
             stdout.write_all(&[digit(*byte / 16), digit(*byte)])?;
         }
         begun = shown;
+    }
+    Ok(())
+}
+
+// The same of all rows. A row has up to 32 bytes.
+fn show_rows(stdout: &mut impl Write, bytes: &[u8], old: &[u8], all: bool) -> Result<()> {
+    for (i, (row, old)) in bytes.chunks(ROW).zip(old.chunks(ROW)).enumerate() {
+        if all || row != old {
+            show_row(stdout, ROW.saturating_mul(i), row, old, all)?;
+        }
     }
     writeln!(stdout)
 }
