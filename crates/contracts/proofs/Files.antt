@@ -2,7 +2,7 @@
 use Rattle.command.specs.Command.{command_is}
 use Rattle.command.specs.Refusal.{number_in}
 use Rattle.contracts.proofs.Exactly.{exactly}
-use Rattle.contracts.specs.Contract.{Held}
+use Rattle.contracts.specs.Contract.{Held, Settled}
 use Rattle.endian.proofs.at.Reads as EndianAt
 use Rattle.endian.proofs.put.Reads as EndianPut
 use Rattle.endian.proofs.numbers.U8Number.read.Reads as U8Read
@@ -24,12 +24,17 @@ use Rattle.runs.proofs.RunLaws.{put_plain, read_plain}
 use Rattle.runs.specs.Runs.{put_run, read_run}
 use Rattle.steps.specs.Step.{tables_of}
 use Rattle.std.proofs.Common.{ℕ, [], min, take, decimal, IfOk, IfSome, OnOk, subst, Ok, Err, IsErrOf, ◌⊎◌}
-use Rattle.std.specs.Io.{StartsWith}
-use Rattle.std.specs.Io.KnownBytes.{Appends, IsAtEnd}
+use Rattle.std.specs.Io.{StartsWith, WritesAtMost}
+use Rattle.std.specs.Io.KnownBytes.{Appends, IsAtEnd, Keeps, WriteAppends}
 use Rattle.std.specs.declared.env.Env as Env
 use Rattle.std.specs.declared.io.traits.Read as Read
 use Rattle.std.specs.declared.io.traits.Write as Write
+use Rattle.streams.proofs.PlainWrite.flush.Reads as StreamsPlainFlush
+use Rattle.streams.proofs.PlainWrite.write.Reads as StreamsPlainWrite
 use Rattle.streams.proofs.PlainWrite.write_all.Reads as StreamsPlainWriteAll
+use Rattle.streams.proofs.TryingWrite.flush.Reads as StreamsTryingFlush
+use Rattle.streams.proofs.TryingWrite.write.Reads as StreamsTryingWrite
+use Rattle.streams.proofs.TryingWrite.write_all.Reads as StreamsTryingWriteAll
 use Rattle.streams.proofs.arg.Reads as StreamsArg
 use Rattle.streams.proofs.print_decimal.Reads as StreamsPrintDecimal
 use Rattle.streams.proofs.read_file.Reads as StreamsReadFile
@@ -246,16 +251,38 @@ module _ (T : RattleType) (none : T.lives ≡ []) (laws : Laws T) (dict : Dict) 
       OnOk r (Appends (its.contents writer.now.output.now) (its.contents writer'.now.output.now) bytes.now))
   streams_plain_write_all its = record { asks_nothing = λ κs a κ m. lasts T.lives none κ m; settles = λ κs a r e h. h }
 
+  streams_plain_write : (its : Write.Ghosts T.Denot) → Held (StreamsPlainWrite.Asked T laws its dict) (StreamsPlainWrite.Learnt T laws its dict)
+      (λ κs a r e.
+      let writer = a.0 in let writer' = e.0 in let bytes = a.1.0 in
+      (WritesAtMost r bytes.now)
+      × (WriteAppends (its.contents writer.now.output.now) (its.contents writer'.now.output.now) r bytes.now))
+  streams_plain_write its = record { asks_nothing = λ κs a κ m. lasts T.lives none κ m; settles = λ κs a r e h. h }
+
+  streams_plain_flush : (its : Write.Ghosts T.Denot) → Held (StreamsPlainFlush.Asked T laws its dict) (StreamsPlainFlush.Learnt T laws its dict)
+      (λ κs a r e. let writer = a.0 in let writer' = e.0 in Keeps (its.contents writer.now.output.now) (its.contents writer'.now.output.now))
+  streams_plain_flush its = record { asks_nothing = λ κs a κ m. lasts T.lives none κ m; settles = λ κs a r e h. h }
+
+  -- Of what the output of this one holds nothing is said.
+  streams_trying_write : (its : Write.Ghosts T.Denot) → Held (StreamsTryingWrite.Asked T laws its dict) (StreamsTryingWrite.Learnt T laws its dict)
+      (λ κs a r e. let bytes = a.1.0 in WritesAtMost r bytes.now)
+  streams_trying_write its = record { asks_nothing = λ κs a κ m. lasts T.lives none κ m; settles = λ κs a r e h. h.0 }
+
+  streams_trying_flush : (its : Write.Ghosts T.Denot)
+      → Held (StreamsTryingFlush.Asked T laws its dict) (StreamsTryingFlush.Learnt T laws its dict) (λ κs a r e. Unit {0})
+  streams_trying_flush its = record { asks_nothing = λ κs a κ m. lasts T.lives none κ m; settles = λ κs a r e h. tt }
+
+  streams_trying_write_all : (its : Write.Ghosts T.Denot)
+      → Held (StreamsTryingWriteAll.Asked T laws its dict) (StreamsTryingWriteAll.Learnt T laws its dict) (λ κs a r e. Unit {0})
+  streams_trying_write_all its = record { asks_nothing = λ κs a κ m. lasts T.lives none κ m; settles = λ κs a r e h. tt }
+
   streams_arg : (its : Env.Ghosts T.Denot) → Held (StreamsArg.Asked T laws its dict) (StreamsArg.Learnt T laws its dict)
       (λ κs a r e. let buf' = e.1.1.0 in IfSome r (λ count. IsPrefixLen count buf'.now))
   streams_arg its = record { asks_nothing = λ κs a κ m. lasts T.lives none κ m; settles = λ κs a r e h. h }
 
--- Of any reader, writer and value that shows, which borrow nothing.
-module _ (R W S : RattleType) (no-loan-R : R.lives ≡ []) (no-loan-W : W.lives ≡ []) (no-loan-S : S.lives ≡ [])
-    (reader : Laws R) (writer : Laws W) (shows : Laws S) (read-dict write-dict show-dict : Dict) where
-  streams_show_input : (read : Read.Ghosts R.Denot) (write : Write.Ghosts W.Denot) (show : Show.Ghosts S.Denot W.Denot)
-      → Held (StreamsShowInput.Asked R W S reader writer shows read read-dict write write-dict show show-dict)
-      (StreamsShowInput.Learnt R W S reader writer shows read read-dict write write-dict show show-dict)
+-- Of any reader, writer and value that shows; and that nothing is asked, where they borrow nothing.
+module _ (R W S : RattleType) (reader : Laws R) (writer : Laws W) (shows : Laws S) (read-dict write-dict show-dict : Dict) where
+  streams_show_input_told : (read : Read.Ghosts R.Denot) (write : Write.Ghosts W.Denot) (show : Show.Ghosts S.Denot W.Denot)
+      → Settled (StreamsShowInput.Learnt R W S reader writer shows read read-dict write write-dict show show-dict)
       (λ κs a r e.
       let input = a.0 in let input' = e.0 in let output = a.1.0 in let output' = e.1.0 in let value = a.1.1.0 in
       let shown = Shown (show.shows value.now) output.now output'.now (read.remaining input.now) in
@@ -263,10 +290,23 @@ module _ (R W S : RattleType) (no-loan-R : R.lives ≡ []) (no-loan-W : W.lives 
       × ((IsErrOf r Input → output'.now ≡ output.now)
       × ((OnOk r (shown (Ok tt)))
       × (IsErrOf r Output → (x : Error) × shown (Err x)))))
-  streams_show_input read write show = record {
-    asks_nothing = λ κs a. (λ κ m. lasts R.lives no-loan-R κ m, (λ κ m. lasts W.lives no-loan-W κ m, λ κ m. lasts S.lives no-loan-S κ m));
-    settles = λ κs a r e h. h;
-  }
+  streams_show_input_told read write show = record { told = λ κs a r e h. h }
+
+  module _ (no-loan-R : R.lives ≡ []) (no-loan-W : W.lives ≡ []) (no-loan-S : S.lives ≡ []) where
+    streams_show_input : (read : Read.Ghosts R.Denot) (write : Write.Ghosts W.Denot) (show : Show.Ghosts S.Denot W.Denot)
+        → Held (StreamsShowInput.Asked R W S reader writer shows read read-dict write write-dict show show-dict)
+        (StreamsShowInput.Learnt R W S reader writer shows read read-dict write write-dict show show-dict)
+        (λ κs a r e.
+        let input = a.0 in let input' = e.0 in let output = a.1.0 in let output' = e.1.0 in let value = a.1.1.0 in
+        let shown = Shown (show.shows value.now) output.now output'.now (read.remaining input.now) in
+        (IsErrOf r Input ⊎ IsAtEnd (read.remaining input'.now))
+        × ((IsErrOf r Input → output'.now ≡ output.now)
+        × ((OnOk r (shown (Ok tt)))
+        × (IsErrOf r Output → (x : Error) × shown (Err x)))))
+    streams_show_input read write show = record {
+      asks_nothing = λ κs a. (λ κ m. lasts R.lives no-loan-R κ m, (λ κ m. lasts W.lives no-loan-W κ m, λ κ m. lasts S.lives no-loan-S κ m));
+      settles = (streams_show_input_told read write show).told;
+    }
 
 -- ---- `script`
 

@@ -6,3 +6,7 @@ module _ {L : Type 0} {A R E : L → Type 0} where
   pub record Held (asked : (κs : L) → A κs → Type 0) (learnt said : (κs : L) → A κs → R κs → E κs → Type 0) : Type 0 where
     pub asks_nothing : (κs : L) (a : A κs) → asked κs a
     pub settles : (κs : L) (a : A κs) (r : R κs) (e : E κs) → learnt κs a r e → said κs a r e
+
+  -- A contract that settles what is said here, of a caller that shows what it asks.
+  pub record Settled (learnt said : (κs : L) → A κs → R κs → E κs → Type 0) : Type 0 where
+    pub told : (κs : L) (a : A κs) (r : R κs) (e : E κs) → learnt κs a r e → said κs a r e

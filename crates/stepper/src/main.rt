@@ -342,7 +342,7 @@ fn take(
     state.visited = unless_refused(turned.stepped.reply, looked);
 }
 
-// Takes the steps of a file of n, and writes the block after each, also where one before could not be written. The first failure is told.
+// Takes the steps of a file of n, and writes the block after each, also where one before could not be written, and answers whether all could.
 fn show_steps(
     stdout: &mut Stdout,
     g: Geometry,
@@ -370,8 +370,8 @@ fn show_steps(
     written
 }
 
-// Writes the blocks of a file that is not refused, on tables of its geometry, and what the domains hold at the end. All is tried, and the first
-// failure is told.
+// Writes the blocks of a file that is not refused, on tables of its geometry, and what the domains hold at the end. All is tried, and it answers
+// whether all could be written.
 fn run(
     stdout: &mut Stdout,
     g: Geometry,
