@@ -98,6 +98,20 @@ fn tags_of(tags: &[u64], set: usize, ways: usize) -> &[u64]
     &tags[start..start + ways]
 }
 
+// Fills a set's row.
+fn fill_row(set: usize, tags: &[u64], valid: u16, dirty: u16, word: u64, row: &mut [u8])
+    requires { 14 + 8 * length tags.now ≤ length row.old }
+{
+    row[..2].copy_from_slice(&short(set).to_le_bytes());
+    row[2..4].copy_from_slice(&valid.to_le_bytes());
+    row[4..6].copy_from_slice(&dirty.to_le_bytes());
+    row[6..14].copy_from_slice(&word.to_le_bytes());
+    for (w, tag) in tags.iter().enumerate() {
+        let at = 14 + 8 * w;
+        row[at..at + 8].copy_from_slice(&tag.to_le_bytes());
+    }
+}
+
 // Puts a set's row at a place, and answers the place behind it.
 fn put_row(
     set: usize,
@@ -113,16 +127,9 @@ fn put_row(
     ensures value { result ≡ at + (14 + 8 * length tags.now) }
     ensures upper_bound { result ≤ at + 142 }
 {
-    let row = &mut out[at..at + 14 + 8 * tags.len()];
-    row[..2].copy_from_slice(&short(set).to_le_bytes());
-    row[2..4].copy_from_slice(&valid.to_le_bytes());
-    row[4..6].copy_from_slice(&dirty.to_le_bytes());
-    row[6..14].copy_from_slice(&word.to_le_bytes());
-    for (w, tag) in tags.iter().enumerate() {
-        let place = 14 + 8 * w;
-        row[place..place + 8].copy_from_slice(&tag.to_le_bytes());
-    }
-    at + row.len()
+    let next = at + 14 + 8 * tags.len();
+    fill_row(set, tags, valid, dirty, word, &mut out[at..next]);
+    next
 }
 
 // Puts the rows of a block behind its head, and answers how many bytes it has.
