@@ -1,7 +1,8 @@
 """The names that pages cite, for tools/verify: that they are defined, and in the file named beside them.
 
 In docs/CLAIMS.md every name in a code span is to be defined somewhere under crates/, in a specification, a proof or a
-source, or to be a must-fail edit, a crate, or a word of WORDS. On every page but the notes in docs/changes, docs/PORT.md and docs/DESIGN-PASS.md:
+source, or to be a must-fail edit, a crate, or a word of WORDS. On every page but the notes in
+docs/changes, docs/PORT.md, docs/DESIGN-PASS.md and docs/LOOK-BACK.md:
 
   `a`, `b` in `file`        both are defined in that file; so too with a comma or a bracket before the file, and with
                             more files behind it, `a` in `file` and in `other`

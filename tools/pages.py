@@ -1,8 +1,9 @@
 """The pages' links, paths and lists, for tools/verify: that what they lead to and name is there.
 
 A page is README.md, a Markdown file under docs/, or a README.md under examples/. Each check is given the pages, and
-gives how many things it looked at and a line for each fault. Notes in docs/changes, docs/PORT.md and docs/DESIGN-PASS.md tell of a time,
-and may name what is gone: of them the links are checked, and nothing else.
+gives how many things it looked at and a line for each fault. Notes in docs/changes, docs/PORT.md,
+docs/DESIGN-PASS.md and docs/LOOK-BACK.md tell of a time, and may name what is gone: of them the links are checked, and
+nothing else.
 """
 
 import os
@@ -19,6 +20,7 @@ PATH = re.compile(r"[\w.*-]+(?:/[\w.*-]+)*/?")
 FILE_NAME = re.compile(r"[\w-]+\.(?:antt|rt|edit|md|py|rs|sv|txt|json|svg|supp|toml|log)")
 COMMAND = re.compile(r"(?<![\w/-])tools/([\w-]+)(?![\w-]|\.\w)")
 IN_A_CRATE = ("specs", "src", "proofs", "must-fail", "stdin", "stdout")
+OF_A_TIME = ("docs/changes/", "docs/PORT.md", "docs/DESIGN-PASS.md", "docs/LOOK-BACK.md")
 MADE = "target"  # what is built is there only after a build
 OUT = "out"  # and so is what `rt` makes in a crate's folder, with copies of its files
 
@@ -37,7 +39,7 @@ class Page:
         self.text = path.read_text(encoding="utf-8")
         self.unfenced = FENCE.sub(blanked, self.text)
         self.prose = CODE.sub(blanked, self.unfenced)
-        self.told = not self.name.startswith(("docs/changes/", "docs/PORT.md", "docs/DESIGN-PASS.md"))  # of how things are now
+        self.told = not self.name.startswith(OF_A_TIME)  # of how things are now
 
     def at(self, place):
         """A place in the text as whoever edits the page would find it."""
