@@ -7,7 +7,8 @@
 //   `change` and the word after a change of fill map, from the map of the entry before, 0 for the first, to this one;
 //   `conflict` and 0, 5 or 9: whether two domains may have these two maps.
 // A call that is refused gives `refused` and its number in place of its values, except that `touch` still names the way. A file that is refused
-// gives the one line `refused` and its number. A failed read or write is told on standard error.
+// gives the one line `refused` and its number. A failed read or write is told on standard error. A word is a write of its own, and so is each
+// field behind it: an output that fails has the pieces before.
 #![tactic(auto)]
 
 use replacement::Refusal;

@@ -17,7 +17,7 @@ use std::io::{Result, Write};
 use streams::{Failure, Plain, Show};
 use tracefile::MAX_STEPS;
 
-// Ends a line with a word and what follows it.
+// Ends a line with a word and what follows it. The word is a write of its own, and so is each field: an output that fails has the pieces before.
 fn show_told<D: Display + Drop>(stdout: &mut impl Write, word: &str, fields: D) -> Result<()> {
     write!(stdout, "{word}")?;
     writeln!(stdout, "{fields}")
