@@ -1,8 +1,9 @@
--- Contracts of numbers in bytes, streams, trace files and listings: each asks nothing, and settles what is said here for every input.
+-- Contracts of numbers in bytes, streams, trace files and listings: each asks nothing, and settles what is said here for every input. One asks
+-- something, `show_input`: that what it is handed may be called.
 use Rattle.command.specs.Command.{command_is}
 use Rattle.command.specs.Refusal.{number_in}
 use Rattle.contracts.proofs.Exactly.{exactly}
-use Rattle.contracts.specs.Contract.{Held, Settled}
+use Rattle.contracts.specs.Contract.{AsksNoMore, Held, Settled}
 use Rattle.endian.proofs.at.Reads as EndianAt
 use Rattle.endian.proofs.put.Reads as EndianPut
 use Rattle.endian.proofs.numbers.U8Number.read.Reads as U8Read
@@ -39,9 +40,12 @@ use Rattle.streams.proofs.arg.Reads as StreamsArg
 use Rattle.streams.proofs.print_decimal.Reads as StreamsPrintDecimal
 use Rattle.streams.proofs.read_file.Reads as StreamsReadFile
 use Rattle.streams.proofs.show_input.Reads as StreamsShowInput
+use Rattle.streams.proofs.show_input_by.Reads as StreamsShowInputBy
 use Rattle.streams.proofs.write_all.Reads as StreamsWriteAll
 use Rattle.streams.specs.Kept.{kept}
 use Rattle.streams.specs.Shown.{Shown}
+use Rattle.streams.specs.ShownBy.{ShownBy}
+use Rattle.streams.specs.contracts.show_input.F-FnOnce as ShowCall
 use Rattle.streams.specs.declared.Show as Show
 use Rattle.streams.specs.declared.Failure.TheVariants.{Input, Output}
 use Rattle.std.specs.declared.io.Error.{Error}
@@ -281,31 +285,53 @@ module _ (T : RattleType) (none : T.lives ≡ []) (laws : Laws T) (dict : Dict) 
 
 -- Of any reader, writer and value that shows; and that nothing is asked, where they borrow nothing.
 module _ (R W S : RattleType) (reader : Laws R) (writer : Laws W) (shows : Laws S) (read-dict write-dict show-dict : Dict) where
-  streams_show_input_told : (read : Read.Ghosts R.Denot) (write : Write.Ghosts W.Denot) (show : Show.Ghosts S.Denot W.Denot)
-      → Settled (StreamsShowInput.Learnt R W S reader writer shows read read-dict write write-dict show show-dict)
+  streams_show_input_by_told : (read : Read.Ghosts R.Denot) (write : Write.Ghosts W.Denot) (show : Show.Ghosts S.Denot W.Denot)
+      → Settled (StreamsShowInputBy.Learnt R W S reader writer shows read read-dict write write-dict show show-dict)
       (λ κs a r e.
       let input = a.0 in let input' = e.0 in let output = a.1.0 in let output' = e.1.0 in let value = a.1.1.0 in
-      let shown = Shown (show.shows value.now) output.now output'.now (read.remaining input.now) in
+      let shown = ShownBy (show.shows value.now) output.now output'.now (read.remaining input.now) in
       (IsErrOf r Input ⊎ IsAtEnd (read.remaining input'.now))
       × ((IsErrOf r Input → output'.now ≡ output.now)
       × ((OnOk r (shown (Ok tt)))
       × (IsErrOf r Output → (x : Error) × shown (Err x)))))
-  streams_show_input_told read write show = record { told = λ κs a r e h. h }
+  streams_show_input_by_told read write show = record { told = λ κs a r e h. h }
 
   module _ (no-loan-R : R.lives ≡ []) (no-loan-W : W.lives ≡ []) (no-loan-S : S.lives ≡ []) where
-    streams_show_input : (read : Read.Ghosts R.Denot) (write : Write.Ghosts W.Denot) (show : Show.Ghosts S.Denot W.Denot)
-        → Held (StreamsShowInput.Asked R W S reader writer shows read read-dict write write-dict show show-dict)
-        (StreamsShowInput.Learnt R W S reader writer shows read read-dict write write-dict show show-dict)
+    streams_show_input_by : (read : Read.Ghosts R.Denot) (write : Write.Ghosts W.Denot) (show : Show.Ghosts S.Denot W.Denot)
+        → Held (StreamsShowInputBy.Asked R W S reader writer shows read read-dict write write-dict show show-dict)
+        (StreamsShowInputBy.Learnt R W S reader writer shows read read-dict write write-dict show show-dict)
         (λ κs a r e.
         let input = a.0 in let input' = e.0 in let output = a.1.0 in let output' = e.1.0 in let value = a.1.1.0 in
-        let shown = Shown (show.shows value.now) output.now output'.now (read.remaining input.now) in
+        let shown = ShownBy (show.shows value.now) output.now output'.now (read.remaining input.now) in
         (IsErrOf r Input ⊎ IsAtEnd (read.remaining input'.now))
         × ((IsErrOf r Input → output'.now ≡ output.now)
         × ((OnOk r (shown (Ok tt)))
         × (IsErrOf r Output → (x : Error) × shown (Err x)))))
-    streams_show_input read write show = record {
+    streams_show_input_by read write show = record {
       asks_nothing = λ κs a. (λ κ m. lasts R.lives no-loan-R κ m, (λ κ m. lasts W.lives no-loan-W κ m, λ κ m. lasts S.lives no-loan-S κ m));
-      settles = (streams_show_input_told read write show).told;
+      settles = (streams_show_input_by_told read write show).told;
+    }
+
+-- Of any reader, writer and closure. What `show_input` asks is that what it is handed may be called; and nothing more, where they borrow nothing.
+module _ (R W F : RattleType) (reader : Laws R) (writer : Laws W) (shows : Laws F) (read-dict write-dict call-dict drop-dict : Dict) where
+  streams_show_input : (read : Read.Ghosts R.Denot) (write : Write.Ghosts W.Denot) (call : ShowCall.Ghosts R W F)
+      → Settled (StreamsShowInput.Learnt R W F reader writer shows read read-dict write write-dict call call-dict drop-dict)
+      (λ κs a r e.
+      let input = a.0 in let input' = e.0 in let output = a.1.0 in let output' = e.1.0 in
+      let shown = Shown ((ShowCall.words R W F call).post a.1.1.0) output.now output'.now (read.remaining input.now) in
+      (IsErrOf r Input ⊎ IsAtEnd (read.remaining input'.now))
+      × ((IsErrOf r Input → output'.now ≡ output.now)
+      × ((OnOk r (shown (Ok tt)))
+      × (IsErrOf r Output → (x : Error) × shown (Err x)))))
+  streams_show_input read write call = record { told = λ κs a r e h. h }
+
+  module _ (no-loan-R : R.lives ≡ []) (no-loan-W : W.lives ≡ []) (no-loan-F : F.lives ≡ []) where
+    streams_show_input_asks : (read : Read.Ghosts R.Denot) (write : Write.Ghosts W.Denot) (call : ShowCall.Ghosts R W F)
+        → AsksNoMore (StreamsShowInput.Asked R W F reader writer shows read read-dict write write-dict call call-dict drop-dict)
+        (λ κs a. (ShowCall.words R W F call).IsAlwaysCallable a.1.1.0)
+    streams_show_input_asks read write call = record {
+      enough = λ κs a callable.
+          (λ κ m. lasts R.lives no-loan-R κ m, (λ κ m. lasts W.lives no-loan-W κ m, (λ κ m. lasts F.lives no-loan-F κ m, callable)));
     }
 
 -- ---- `script`

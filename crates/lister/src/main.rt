@@ -30,7 +30,7 @@ impl<W: Write> Show<W> for Listing {
 }
 
 fn main(rt: HostRuntime) {
-    if let Err(failure) = streams::show_input(&mut rt.stdin(), &mut rt.stdout(), &Listing) {
+    if let Err(failure) = streams::show_input_by(&mut rt.stdin(), &mut rt.stdout(), &Listing) {
         // In one write.
         let told: &[u8] = match failure {
             Failure::Input => b"lister: standard input could not be read to its end\n",

@@ -39,7 +39,7 @@ impl<W: Write> Show<W> for Parts {
 }
 
 fn main(rt: HostRuntime) {
-    if let Err(failure) = streams::show_input(&mut rt.stdin(), &mut rt.stdout(), &Parts) {
+    if let Err(failure) = streams::show_input_by(&mut rt.stdin(), &mut rt.stdout(), &Parts) {
         // In one write.
         let told: &[u8] = match failure {
             Failure::Input => b"parts: standard input could not be read to its end\n",

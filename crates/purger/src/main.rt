@@ -84,7 +84,7 @@ fn main(rt: HostRuntime) {
         let _ = streams::write_all(&mut rt.stderr(), told);
         return;
     };
-    if let Err(failure) = streams::show_input(
+    if let Err(failure) = streams::show_input_by(
         &mut rt.stdin(),
         &mut rt.stdout(),
         &Purged { domain },

@@ -197,7 +197,7 @@ impl<W: Write> Show<W> for Lines {
 }
 
 fn main(rt: HostRuntime) {
-    if let Err(failure) = streams::show_input(&mut rt.stdin(), &mut rt.stdout(), &Lines) {
+    if let Err(failure) = streams::show_input_by(&mut rt.stdin(), &mut rt.stdout(), &Lines) {
         // In one write.
         let told: &[u8] = match failure {
             Failure::Input => b"slices: standard input could not be read to its end\n",

@@ -457,7 +457,7 @@ impl Show<Stdout> for Blocks {
 }
 
 fn main(rt: HostRuntime) {
-    if let Err(failure) = streams::show_input(&mut rt.stdin(), &mut rt.stdout(), &Blocks) {
+    if let Err(failure) = streams::show_input_by(&mut rt.stdin(), &mut rt.stdout(), &Blocks) {
         // In one write.
         let told: &[u8] = match failure {
             Failure::Input => b"stepper: standard input could not be read to its end\n",

@@ -1,6 +1,10 @@
 // Input, read to its end, output, and a program's arguments: the one layer over the library's readers, writers and environment.
 #![tactic(auto)]
 
+mod shows;
+#[cfg(test)]
+mod tests;
+
 ghost use Rattle.std.specs.Prelude.{◌≡◌, ℕ, List, ◌<◌, ◌≤◌, min, length, take, decimal, Result, IfOk, IfSome, IsErrOf, IsTrue, OnOk, ⊤, ◌⊎◌};
 ghost use Rattle.std.specs.Io.{StartsWith};
 ghost use Rattle.std.specs.Io.KnownBytes.{Appends, Consumes, IsAtEnd};
@@ -9,6 +13,7 @@ ghost use Rattle.io.specs.Counts.{IsPrefixLen};
 ghost use Rattle.streams.specs.Kept.{kept};
 ghost use Rattle.streams.specs.Shown.{Shown};
 
+pub use shows::show_input_by;
 use std::io::{Error, ErrorKind, Read, Result, Write};
 use std::rt::Env;
 use std::{fmt, result};
@@ -108,6 +113,28 @@ pub fn read_file<R: Read>(input: &mut R, file: &mut [u8; ROOM]) -> result::Resul
     }
 }
 
+// Hands a trace file on the input to `show`, which writes to the output. An input that was not read to its end is not shown.
+pub fn show_input<R: Read, W: Write, F: FnOnce(&mut W, &[u8]) -> Result<()>>(
+    input: &mut R,
+    output: &mut W,
+    show: F,
+) -> result::Result<(), Failure>
+    requires { F.IsAlwaysCallable show }
+    ensures end { (IsErrOf result Failure.Input) ⊎ (IsAtEnd (R.remaining input.new)) }
+    ensures unread { IsErrOf result Failure.Input → output.new ≡ output.old }
+    ensures shown { OnOk result (Shown (F.post show) output.old output.new (R.remaining input.old) (Ok tt)) }
+    ensures stopped { IsErrOf result Failure.Output → (e : _) × Shown (F.post show) output.old output.new (R.remaining input.old) (Err e) }
+{
+    let mut file = [0; ROOM];
+    let Ok(count) = read_file(input, &mut file) else {
+        return Err(Failure::Input);
+    };
+    match show(output, &file[..count]) {
+        Ok(()) => Ok(()),
+        Err(_) => Err(Failure::Output),
+    }
+}
+
 // What shows a file on an output. `shows` tells what it does: of the output before, the file, the answer and the output after. Where an `impl` says
 // nothing of it, it may be anything.
 pub trait Show<W> {
@@ -115,27 +142,6 @@ pub trait Show<W> {
 
     fn show(&self, output: &mut W, file: &[u8]) -> Result<()>
         ensures { shows self.now output.old file.now result output.new };
-}
-
-// Has a trace file on the input shown on the output. An input that was not read to its end is not shown.
-pub fn show_input<R: Read, W: Write, S: Show<W>>(
-    input: &mut R,
-    output: &mut W,
-    shown: &S,
-) -> result::Result<(), Failure>
-    ensures end { (IsErrOf result Failure.Input) ⊎ (IsAtEnd (R.remaining input.new)) }
-    ensures unread { IsErrOf result Failure.Input → output.new ≡ output.old }
-    ensures shown { OnOk result (Shown (S.shows shown.now) output.old output.new (R.remaining input.old) (Ok tt)) }
-    ensures stopped { IsErrOf result Failure.Output → (e : _) × Shown (S.shows shown.now) output.old output.new (R.remaining input.old) (Err e) }
-{
-    let mut file = [0; ROOM];
-    let Ok(count) = read_file(input, &mut file) else {
-        return Err(Failure::Input);
-    };
-    match shown.show(output, &file[..count]) {
-        Ok(()) => Ok(()),
-        Err(_) => Err(Failure::Output),
-    }
 }
 
 // Writes all of the bytes, or stops at the first write that takes nothing or fails. The library's `write_all` says nothing of what was written before
