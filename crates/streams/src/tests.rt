@@ -1,5 +1,5 @@
-// Runs of `show_input`: that a call of it can succeed, which no clause says, also by a closure that its call uses up and on more than there is room for, and what
-// it answers where the input or the output fails.
+// Runs of `show_input`: that a call of it can succeed, which no clause says, also by a closure that its call uses up and on more than there is room for;
+// and what it answers where the input or the output fails.
 use super::*;
 
 // An input that gives three bytes, and then fails.
